@@ -1,0 +1,3 @@
+-- Laws of the ladder, for the proofs of the readers.
+pub mod Ladder
+pub mod Least

@@ -1,0 +1,8 @@
+pub mod Signature
+pub mod Terms
+pub mod Tables
+pub mod Scope
+pub mod Figure2
+pub mod Typing
+pub mod Inference
+pub mod Version1

@@ -1,0 +1,2 @@
+-- Laws of the tables, for the proofs of the readers.
+pub mod RowLaws

@@ -1,0 +1,2 @@
+-- Laws of entries, for the proofs of the readers.
+pub mod Places

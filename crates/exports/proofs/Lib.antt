@@ -1,0 +1,2 @@
+-- Laws of giving an answer.
+mod Laid

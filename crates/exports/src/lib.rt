@@ -1,0 +1,96 @@
+// The static library: the readers and services as C functions over slices, for tests and for programs in other languages.
+// Each answers the refusal number, 0 for none, and gives eight entries: number, file, place, then what was read.
+use answers::Check;
+use list::Part;
+ghost use mathlib.Core.List.{[], _∷_};
+ghost use mathlib.Core.Path.{_≡_};
+ghost use lib.Dec.{leb};
+ghost use Rattle.base.specs.Pick.{pick};
+ghost use Rattle.exports.specs.Given.{Given};
+ghost use Rattle.exports.specs.Entries.{entriesOf, tableEntries, listEntries, traceEntries, typeOfEntries};
+
+// Gives the entries, where there is room for them.
+fn give(answer: &mut [u64], number: u8, file: u8, place: u64, a: u64, b: u64, c: u64) -> u8
+    ensures { λ r. ⌜ Given (now (answer .entry)) (now (answer .exit)) r (number ∷ file ∷ place ∷ a ∷ b ∷ c ∷ 0 ∷ 0 ∷ []) ⌝ }
+{
+    if answer.len() < 8 {
+        return 255;
+    }
+    answer[0] = number as u64;
+    answer[1] = file as u64;
+    answer[2] = place;
+    answer[3] = a;
+    answer[4] = b;
+    answer[5] = c;
+    answer[6] = 0;
+    answer[7] = 0;
+    number
+}
+
+// Gives what a reader answers.
+fn give_check(answer: &mut [u64], check: Check, a: u64, b: u64, c: u64) -> u8
+    ensures { λ r. ⌜ Given (now (answer .entry)) (now (answer .exit)) r (entriesOf check a b c) ⌝ }
+{
+    let Check::Refuse(x) = check else {
+        return give(answer, 0, 0, 0, a, b, c);
+    };
+    give(answer, x.number, x.file, x.place, 0, 0, 0)
+}
+
+// Reads a table: numbers 1 to 9, or S, T and P.
+#[no_mangle]
+pub extern "C" fn mirvashol_check_table(table: &[u8], answer: &mut [u64]) -> u8
+    ensures { λ r. ⌜ Given (now (answer .entry)) (now (answer .exit)) r (tableEntries (now (table .entry))) ⌝ }
+{
+    let check = table::check_table(table);
+    let a = table_layout::symbol_count(table) as u64;
+    let b = table_layout::term_count(table) as u64;
+    let c = table_layout::step_count(table) as u64;
+    give_check(answer, check, a, b, c)
+}
+
+// Reads a list by itself, where the table has so many free symbols: numbers 1 to 5, or S, N and where the statements begin.
+#[no_mangle]
+pub extern "C" fn mirvashol_check_list(list: &[u8], free: usize, answer: &mut [u64]) -> u8
+    ensures { λ r. ⌜ Given (now (answer .entry)) (now (answer .exit)) r (listEntries (now (list .entry)) free) ⌝ }
+{
+    let check = list::check_list(list, at_most(free));
+    let a = list::symbol_count(list) as u64;
+    let b = list::statement_count(list) as u64;
+    let c = list::statements_at(list) as u64;
+    give_check(answer, check, a, b, c)
+}
+
+// Reads a trace: numbers 1 to 6, or V, K and F.
+#[no_mangle]
+pub extern "C" fn mirvashol_check_trace(trace: &[u8], answer: &mut [u64]) -> u8
+    ensures { λ r. ⌜ Given (now (answer .entry)) (now (answer .exit)) r (traceEntries (now (trace .entry))) ⌝ }
+{
+    let check = trace::check_trace(trace);
+    let a = trace::value_count(trace) as u64;
+    let b = trace::supply_count(trace) as u64;
+    let c = trace::starting_count(trace) as u64;
+    give_check(answer, check, a, b, c)
+}
+
+// The part of a list that holds a symbol's type: where it starts and how long it is.
+#[no_mangle]
+pub extern "C" fn mirvashol_type_of(list: &[u8], symbol: usize, answer: &mut [u64]) -> u8
+    ensures { λ r. ⌜ Given (now (answer .entry)) (now (answer .exit)) r (typeOfEntries (now (list .entry)) symbol) ⌝ }
+{
+    let part = list::type_part(list, symbol);
+    let Part::At(start, count) = part else {
+        return give(answer, 0, 0, 0, 0, 0, 0);
+    };
+    give(answer, 0, 0, 0, start as u64, count as u64, 0)
+}
+
+// A number of free symbols in 16 bits.
+fn at_most(free: usize) -> u16
+    ensures { λ r. ⌜ r ≡ pick (leb free 65535) free 65535 ⌝ }
+{
+    if free <= 65535 {
+        return free as u16;
+    }
+    65535
+}

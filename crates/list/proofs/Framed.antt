@@ -1,0 +1,107 @@
+-- What it says of a list that 1 to 4 pass, and that 1 to 5 do; and what its length test says. Assumes nothing.
+use mathlib.Core.Path.{_≡_, refl, sym, _∙_}
+use mathlib.Core.Bool.{Bool, true, false}
+use mathlib.Core.Logic.{_↔_}
+use mathlib.Core.List.{List, [], _∷_}
+use Prim.Native.Nat.{ℕ, zero, suc, _+_, _*_, _-_, _≤_, _<_}
+use native.Mathlib.Omega.{arith}
+use lib.Dec.{leb, eqb}
+use lib.ListN.{length, drop, length-drop}
+use borrow.Author.Tests.{leb-true, eqb-true, le-leb, eq-eqb}
+use Rattle.base.specs.Bytes.{byte}
+use Rattle.base.specs.Pick.{both}
+use Rattle.codes.specs.Marks.{header}
+use Rattle.answers.specs.Ladder.{least}
+use Rattle.answers.specs.declared.Check.the-variants.{Pass}
+use Rattle.answers.proofs.Ladder.{whole-right, least-none, after-pass}
+use Rattle.opening.specs.Opening.{marked, version}
+use Rattle.list.specs.Layout.{symbols, statements, pastType, typeAt, statementsAt, countsOk, lengthOk, typeOk, statementOk}
+use Rattle.list.specs.Faults.{frameRungs, typeRung, typeRungs, statementRung, listRungs}
+use Rattle.list.proofs.Walks.{type-at-next, type-at-rises}
+use Rattle.list.proofs.Layers.{layers-pass, whole-pass, rung-pass, rung-passes}
+
+-- both tests of two hold
+pub both-true : (a b : Bool) → both a b ≡ true → (a ≡ true) × (b ≡ true)
+both-true true b e = (refl, e)
+both-true false b e = let z : _≡_ {A = ℕ} 0 1 = cc in absurd (omega arith)
+
+-- the header is there with its mark, the version is 1, the counts are within their limits, and the length is exact
+pub record Framed (s : List ℕ) : Type 0 where
+  pub mark-right : marked 1 s ≡ true
+  pub version-one : version s ≡ 1
+  pub few-symbols : symbols s ≤ 96
+  pub few-statements : statements s ≤ 512
+  pub length-exact : length s ≡ statementsAt s + 4 * statements s
+
+-- 1 to 4 pass exactly if that holds
+pub frame-passes : (s : List ℕ) → (least (frameRungs s) ≡ Pass) ↔ Framed s
+unfolding countsOk lengthOk
+frame-passes s = (λ e. to e, λ f. from f)
+  where
+    to : least (frameRungs s) ≡ Pass → Framed s
+    to e =
+        let (m, e₁) = whole-pass 1 1 (marked 1 s) _ e in
+        let (v, e₂) = whole-pass 2 1 (eqb (version s) 1) _ e₁ in
+        let (c, e₃) = whole-pass 3 1 (countsOk s) _ e₂ in
+        let (l, e₄) = whole-pass 4 1 (lengthOk s) _ e₃ in
+        let (a, b) = both-true (leb (symbols s) 96) (leb (statements s) 512) c in
+        record { mark-right = m; version-one = eqb-true (version s) 1 v; few-symbols = leb-true (symbols s) 96 a; few-statements = leb-true (statements s) 512 b; length-exact = eqb-true (length s) (statementsAt s + 4 * statements s) l }
+
+    from : Framed s → least (frameRungs s) ≡ Pass
+    from f =
+        whole-right 1 1 (marked 1 s) _ (f .mark-right)
+        ∙ whole-right 2 1 (eqb (version s) 1) _ (eq-eqb (version s) 1 (f .version-one))
+        ∙ whole-right 3 1 (countsOk s) _ (rw (le-leb (symbols s) 96 (f .few-symbols)) (le-leb (statements s) 512 (f .few-statements)))
+        ∙ whole-right 4 1 (lengthOk s) _ (eq-eqb (length s) (statementsAt s + 4 * statements s) (f .length-exact))
+        ∙ least-none
+
+-- a list with the mark has a whole header
+pub header-there : (s : List ℕ) → marked 1 s ≡ true → 8 ≤ length s
+unfolding marked header byte
+header-there s e = leb-true 8 (length s) (both-true (leb 8 (length s)) _ e .0)
+
+-- where the length is exact, each type ends before the statements begin, and so inside the list
+pub type-inside : (s : List ℕ) (i : ℕ) → length s ≡ statementsAt s + 4 * statements s → i < symbols s → pastType s (typeAt s i) ≤ length s
+type-inside s i e h = omega (arith, type-at-next s i, type-at-rises s (i + 1) (symbols s) (omega arith))
+
+-- every length byte and the bytes that it counts lie inside the list, and the rest is exactly 4N bytes
+abbrev pub Walked : List ℕ → Type 0
+Walked s =
+    ((i : ℕ) → i < symbols s → (typeAt s i < length s) × (pastType s (typeAt s i) ≤ length s))
+    × (length (drop (statementsAt s) s) ≡ 4 * statements s)
+
+-- that is what the length test says of a list with a whole header
+pub length-ok-walked : (s : List ℕ) → 8 ≤ length s → (lengthOk s ≡ true) ↔ Walked s
+unfolding lengthOk typeAt
+length-ok-walked s h = (λ e. to (eqb-true (length s) (statementsAt s + 4 * statements s) e), λ w. eq-eqb (length s) (statementsAt s + 4 * statements s) (from w))
+  where
+    to : length s ≡ statementsAt s + 4 * statements s → Walked s
+    to e = (λ i l. let q = type-inside s i e l in (omega arith, q), rw length-drop (omega arith))
+
+    end : (n : ℕ) → n ≡ symbols s → Walked s → typeAt s n ≤ length s
+    end zero q w = h
+    end (suc n) q w = w .0 n (omega arith) .1
+
+    from : Walked s → length s ≡ statementsAt s + 4 * statements s
+    from w = omega (arith, end (symbols s) refl w, sym (length-drop (statementsAt s) s) ∙ w .1)
+
+-- what it says of a list that 1 to 5 pass: the frame is right, and so is each type and each statement
+pub record Listed (s : List ℕ) (free : ℕ) : Type 0 where
+  pub framed : Framed s
+  pub types-right : (i : ℕ) → i < symbols s → typeOk s i ≡ true
+  pub statements-right : (i : ℕ) → i < statements s → statementOk s free i ≡ true
+
+-- 1 to 5 pass exactly if that holds
+pub list-passes : (s : List ℕ) (free : ℕ) → (least (listRungs s free) ≡ Pass) ↔ Listed s free
+list-passes s free = (λ e. to (layers-pass (typeRungs s) (statementRung s free ∷ []) e), λ l. from l)
+  where
+    to : (least (typeRungs s) ≡ Pass) × (least (statementRung s free ∷ []) ≡ Pass) → Listed s free
+    to (t, p) =
+        let (f, q) = layers-pass (frameRungs s) (typeRung s ∷ []) t in
+        record { framed = frame-passes s .0 f; types-right = rung-pass (typeRung s) q; statements-right = rung-pass (statementRung s free) p }
+
+    from : Listed s free → least (listRungs s free) ≡ Pass
+    from l =
+        after-pass (typeRungs s) (statementRung s free ∷ [])
+        (after-pass (frameRungs s) (typeRung s ∷ []) (frame-passes s .1 (l .framed)) ∙ rung-passes (typeRung s) (l .types-right))
+        ∙ rung-passes (statementRung s free) (l .statements-right)

@@ -1,0 +1,31 @@
+-- `check_types` meets its contract. Assumes nothing.
+use Rattle.list.proofs.Layers.{layer-refuses, layer-passes}
+use Rattle.list.specs.Faults.{frameRungs, typeRung}
+use mathlib.Core.List.{[], _∷_}
+use mathlib.Core.Path.{_∙_}
+use borrow.Author.Needs.{needs}
+use Rattle.list.proofs.check_types.Statement.{statement}
+use Rattle.list.proofs.check_types.Tie as tie
+
+check-frame-requires : tie.Need-check-frame-requires
+check-frame-requires c κs = search needs
+
+enum-told : tie.Need-enum-told
+enum-told c = search needs
+
+enum-told-2 : tie.Need-enum-told-2
+enum-told-2 c = search needs
+
+returns : tie.Need-returns
+returns c = layer-refuses (frameRungs (c .before .before .before .before .args .s .now)) (typeRung (c .before .before .before .before .args .s .now) ∷ []) _ _ (c .before .before .check-frame .ensures) (c .enum-told2 .given .1)
+
+walk-types-requires : tie.Need-walk-types-requires
+walk-types-requires c κs = search needs
+
+returns-2 : tie.Need-returns-2
+returns-2 c = c .walk-types .ensures ∙ layer-passes (frameRungs (c .before .before .before .before .before .args .s .now)) (typeRung (c .before .before .before .before .before .args .s .now) ∷ []) _ (c .before .before .before .check-frame .ensures) (c .before .enum-told .given .1)
+
+pub check-types-spec : {M : Type 1} → statement M
+check-types-spec =
+    tie.close
+    (tie.spec check-frame-requires enum-told enum-told-2 returns walk-types-requires returns-2)

@@ -1,0 +1,4 @@
+pub mod Layout
+pub mod Faults
+pub mod TypeOf
+pub mod Tiles

@@ -1,0 +1,2 @@
+-- Laws of marks, for the proofs of the crates above.
+pub mod PutLaws

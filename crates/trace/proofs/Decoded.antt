@@ -1,0 +1,75 @@
+-- A trace that was read and is written again is the same file, so no second file holds the same. Assumes nothing.
+use mathlib.Core.Path.{_≡_, refl, sym, ap, _∙_}
+use mathlib.Core.Bool.{Bool, true, false}
+use mathlib.Core.List.{List, [], _∷_, _++_}
+use Prim.Native.Nat.{ℕ, zero, suc, _+_, _*_, _<_}
+use native.Mathlib.Omega.{arith}
+use lib.Dec.{leb, eqb}
+use lib.ListN.{length}
+use borrow.Author.Tests.{eqb-true}
+use Rattle.base.specs.Bytes.{byte, word}
+use Rattle.base.specs.Pick.{both}
+use Rattle.codes.specs.Marks.{mark, header}
+use Rattle.codes.specs.Rows.{width}
+use Rattle.opening.specs.Opening.{marked, version}
+use Rattle.trace.specs.Layout.{values, supplies, startings, startsAt, suppliesAt, indexPlace, index}
+use Rattle.trace.specs.Words.{Bytes}
+use Rattle.trace.specs.Tiling.{listed, joined, stretch, numberBytes, entryOf, entryBytes}
+use Rattle.trace.specs.Decoded.{Trace, traceOf, headerBytes, traceBytes}
+use Rattle.trace.specs.Checked.{Framed}
+use Rattle.trace.proofs.Passed.{both-left, both-right}
+use Rattle.trace.proofs.Tiling.{listed-length, listed-add, stretch-whole, joined-all, word-bytes, entries-bytes}
+
+-- 16-bit indexes from a base offset on, written again
+pub indexes-bytes : (s : List ℕ) → Bytes s → (base n : ℕ) → joined (numberBytes 2) (listed (index s base) 0 n) ≡ stretch s base (2 * n)
+indexes-bytes s h base n =
+    let z : 2 * n ≡ n * 2 = omega arith in
+    rw z (joined-all (numberBytes 2) (index s base) s base 2 (λ i. one i) n)
+  where
+    one : (i : ℕ) → numberBytes 2 (index s base i) ≡ stretch s (base + i * 2) 2
+    one i =
+        let w : numberBytes 2 (index s base i) ≡ stretch s (indexPlace base i) 2 = (unfold index in word-bytes s h (indexPlace base i)) in
+        let z : indexPlace base i ≡ base + i * 2 = omega arith in
+        w ∙ ap (λ p. stretch s p 2) z
+
+-- the mark of a marked file
+mark-bytes : (s : List ℕ) → marked 2 s ≡ true → listed (mark 2) 0 3 ≡ stretch s 0 3
+unfolding marked listed
+mark-bytes s e =
+    let e0 = both-right (leb (header 2) (length s)) _ e in
+    let e1 = both-right (eqb (byte s 0) (mark 2 0)) _ e0 in
+    let a : byte s 0 ≡ mark 2 0 = eqb-true _ _ (both-left (eqb (byte s 0) (mark 2 0)) _ e0) in
+    let b : byte s 1 ≡ mark 2 1 = eqb-true _ _ (both-left (eqb (byte s 1) (mark 2 1)) _ e1) in
+    let c : byte s 2 ≡ mark 2 2 = eqb-true _ _ (both-right (eqb (byte s 1) (mark 2 1)) _ e1) in
+    rw (← a, ← b, ← c)
+
+-- parts that follow each other
+stretches : (s : List ℕ) (p n q m : ℕ) → q ≡ p + n → stretch s p n ++ stretch s q m ≡ stretch s p (n + m)
+stretches s p n q m e = rw e (sym (listed-add (byte s) p n m))
+
+header-bytes : (s : List ℕ) → Bytes s → Framed s → headerBytes (traceOf s) ≡ stretch s 0 10
+header-bytes s h f =
+    rw (mark-bytes s (f .mark), word-bytes s h 3, listed-length (entryOf s 3 10) 0 (values s), word-bytes s h 5, listed-length (index s (suppliesAt s)) 0 (supplies s), word-bytes s h 7, listed-length (index s (startsAt s)) 0 (startings s))
+    (unfold listed numberBytes in refl)
+
+-- the values, the starting values and the supply follow the header
+pub trace-bytes : (s : List ℕ) → Bytes s → Framed s → traceBytes (traceOf s) ≡ s
+trace-bytes s h f =
+    let w : values s * width 3 ≡ 5 * values s = (unfold width byte in omega arith) in
+    let l : suppliesAt s + 2 * supplies s ≡ length s = sym (f .whole-length) in
+    rw (
+      header-bytes s h f,
+      entries-bytes s h 3 10 (values s) (omega arith),
+      w,
+      indexes-bytes s h (startsAt s) (startings s),
+      indexes-bytes s h (suppliesAt s) (supplies s),
+      stretches s 0 10 10 (5 * values s) refl,
+      stretches s 0 (startsAt s) (startsAt s) (2 * startings s) (omega arith),
+      stretches s 0 (suppliesAt s) (suppliesAt s) (2 * supplies s) (omega arith),
+      l,
+    )
+    (stretch-whole s)
+
+-- two files that hold the same are the same
+pub trace-once : (s t : List ℕ) → Bytes s → Bytes t → Framed s → Framed t → traceOf s ≡ traceOf t → s ≡ t
+trace-once s t a b f g e = sym (trace-bytes s a f) ∙ ap traceBytes e ∙ trace-bytes t b g

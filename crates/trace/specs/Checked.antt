@@ -1,0 +1,51 @@
+-- What numbers 1 to 6 rule out, said of a trace itself. Assumes nothing: these are definitions.
+use mathlib.Core.Path.{_≡_}
+use mathlib.Core.Bool.{Bool, true}
+use mathlib.Core.List.{List}
+use Prim.Native.Nat.{ℕ, _+_, _*_, _≤_, _<_}
+use lib.ListN.{length}
+use Rattle.entries.specs.Fields.{code, field}
+use Rattle.opening.specs.Opening.{marked, version}
+use Rattle.trace.specs.Layout.{values, supplies, startings, suppliesAt, starting, supply}
+
+-- after 1 to 4: the mark, the version, the limits of the counts, the length
+pub record Framed (s : List ℕ) : Type 0 where
+  pub mark : marked 2 s ≡ true
+  pub first-version : version s ≡ 1
+  pub few-values : values s ≤ 1024
+  pub few-supplies : supplies s ≤ 128
+  pub few-startings : startings s ≤ 96
+  pub whole-length : length s ≡ suppliesAt s + 2 * supplies s
+
+-- value i of a trace: its tag, and its two numbers
+abbrev pub tag : List ℕ → ℕ → ℕ
+tag s i = code s 3 10 i
+
+abbrev pub left : List ℕ → ℕ → ℕ
+left s i = field s 3 10 i 0
+
+abbrev pub right : List ℕ → ℕ → ℕ
+right s i = field s 3 10 i 1
+
+-- a value of a trace: an atom of a known kind, or a pair or ciphertext of lower values
+pub data Value (s : List ℕ) (i : ℕ) : Type 0 where
+  atom : tag s i ≡ 0 → left s i < 3 → Value s i
+  pair : tag s i ≡ 1 → left s i < i → right s i < i → Value s i
+  ciphertext : tag s i ≡ 2 → left s i < i → right s i < i → Value s i
+
+-- after 5: values, starting values and supply
+pub record Sound (s : List ℕ) : Type 0 where
+  pub each-value : (i : ℕ) → i < values s → Value s i
+  pub each-starting : (i : ℕ) → i < startings s → starting s i < values s
+  pub each-supply : (i : ℕ) → i < supplies s → supply s i < values s
+
+-- after 6: equal values have equal indexes
+abbrev pub Distinct : List ℕ → Type 0
+Distinct s =
+    (i j : ℕ) → i < values s → j < values s → tag s i ≡ tag s j → left s i ≡ left s j → right s i ≡ right s j → i ≡ j
+
+-- a trace with no fault
+pub record Checked (s : List ℕ) : Type 0 where
+  pub framed : Framed s
+  pub sound : Sound s
+  pub distinct : Distinct s

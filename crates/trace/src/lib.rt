@@ -1,0 +1,284 @@
+// The trace: its counts, its values, its starting values and its supply by index, and numbers 1 to 6.
+use answers::Check;
+ghost use mathlib.Core.Path.{_≡_};
+ghost use mathlib.Core.List.{[], _∷_};
+ghost use Rattle.base.specs.Bytes.{word};
+ghost use Rattle.answers.specs.Ladder.{least};
+ghost use Rattle.entries.specs.Fields.{code, field};
+ghost use Rattle.entries.specs.Faults.{twinRung};
+ghost use Rattle.trace.specs.Filing.{keyOf, wayOf, AllFree};
+ghost use Rattle.trace.specs.Layout.{values, supplies, startings, startsAt, suppliesAt, starting, supply, indexPlace, index, indexOk, countsOk, lengthOk};
+ghost use Rattle.trace.specs.Faults.{sizeRungs, frameRungs, indexRung, heldRungs, entryRungs, traceRungs};
+
+// Where the values begin.
+pub const VALUES_AT: u32 = 10;
+
+// The 16-bit number at a place of the header, high byte first.
+fn short_at(s: &[u8], at: u8) -> u16
+    ensures { λ r. ⌜ r ≡ word (now (s .entry)) at ⌝ }
+{
+    let high = base::byte_at(s, at as usize);
+    let low = base::byte_at(s, at as usize + 1);
+    high as u16 * 256 + low as u16
+}
+
+// The number of values, V.
+pub fn value_count(s: &[u8]) -> u16
+    ensures { λ r. ⌜ r ≡ values (now (s .entry)) ⌝ }
+{
+    short_at(s, 5)
+}
+
+// The number of supplied values, K.
+pub fn supply_count(s: &[u8]) -> u16
+    ensures { λ r. ⌜ r ≡ supplies (now (s .entry)) ⌝ }
+{
+    short_at(s, 7)
+}
+
+// The number of starting values, F.
+pub fn starting_count(s: &[u8]) -> u8
+    ensures { λ r. ⌜ r ≡ startings (now (s .entry)) ⌝ }
+{
+    base::byte_at(s, 9)
+}
+
+// Where the starting values begin.
+fn starts_at(s: &[u8]) -> u32
+    ensures { λ r. ⌜ r ≡ startsAt (now (s .entry)) ⌝ }
+{
+    VALUES_AT + 5 * value_count(s) as u32
+}
+
+// Where the supply begins.
+fn supplies_at(s: &[u8]) -> u32
+    ensures { λ r. ⌜ r ≡ suppliesAt (now (s .entry)) ⌝ }
+{
+    starts_at(s) + 2 * starting_count(s) as u32
+}
+
+// Where 16-bit index i stands, of those from a base offset on.
+fn index_place(base: u32, i: u16) -> usize
+    ensures { λ r. ⌜ r ≡ indexPlace base i ⌝ }
+{
+    base as usize + 2 * i as usize
+}
+
+// 16-bit index i, of those from a base offset on.
+pub fn index_at(s: &[u8], base: u32, i: u16) -> usize
+    ensures { λ r. ⌜ r ≡ index (now (s .entry)) base i ⌝ }
+{
+    base::word_at(s, index_place(base, i))
+}
+
+// Starting value i, an index of a value.
+pub fn starting_at(s: &[u8], i: u16) -> usize
+    ensures { λ r. ⌜ r ≡ starting (now (s .entry)) i ⌝ }
+{
+    index_at(s, starts_at(s), i)
+}
+
+// Supplied value i, an index of a value.
+pub fn supply_at(s: &[u8], i: u16) -> usize
+    ensures { λ r. ⌜ r ≡ supply (now (s .entry)) i ⌝ }
+{
+    index_at(s, supplies_at(s), i)
+}
+
+// The tag of value i.
+pub fn value_tag(s: &[u8], i: u16) -> u8
+    ensures { λ r. ⌜ r ≡ code (now (s .entry)) 3 10 i ⌝ }
+{
+    entries::code_at(s, codes::VALUE, VALUES_AT, i)
+}
+
+// The first number of value i: an atom's kind, or a part.
+pub fn value_left(s: &[u8], i: u16) -> usize
+    ensures { λ r. ⌜ r ≡ field (now (s .entry)) 3 10 i 0 ⌝ }
+{
+    entries::field_at(s, codes::VALUE, VALUES_AT, i, 0)
+}
+
+// The second number of value i: an atom's number, or a part.
+pub fn value_right(s: &[u8], i: u16) -> usize
+    ensures { λ r. ⌜ r ≡ field (now (s .entry)) 3 10 i 1 ⌝ }
+{
+    entries::field_at(s, codes::VALUE, VALUES_AT, i, 1)
+}
+
+// No count is over its limit.
+fn counts_ok(s: &[u8]) -> bool
+    ensures { λ r. ⌜ r ≡ countsOk (now (s .entry)) ⌝ }
+{
+    if value_count(s) <= 1024 {
+        if supply_count(s) <= 128 {
+            return starting_count(s) <= 96;
+        }
+    }
+    false
+}
+
+// The file ends with its supply.
+fn length_ok(s: &[u8]) -> bool
+    ensures { λ r. ⌜ r ≡ lengthOk (now (s .entry)) ⌝ }
+{
+    s.len() == index_place(supplies_at(s), supply_count(s))
+}
+
+// Numbers 3 and 4.
+fn check_size(s: &[u8]) -> Check
+    ensures { λ r. ⌜ r ≡ least (sizeRungs (now (s .entry))) ⌝ }
+{
+    if !counts_ok(s) {
+        return answers::refuse(3, codes::TRACE, 0);
+    }
+    if length_ok(s) {
+        return Check::Pass;
+    }
+    answers::refuse(4, codes::TRACE, 0)
+}
+
+// Number 5 of 16-bit indexes from a base offset on: each lies below the limit.
+pub fn check_indexes(s: &[u8], file: u8, base: u32, limit: u16, count: u16) -> Check
+    ensures { λ r. ⌜ r ≡ least (indexRung (now (s .entry)) file base limit count ∷ []) ⌝ }
+{
+    let mut i = 0;
+    while i < count {
+        if limit as usize <= index_at(s, base, i) {
+            return answers::refuse(5, file, index_place(base, i));
+        }
+        i += 1;
+    }
+    Check::Pass
+}
+
+// Number 5 of the starting values and of the supply.
+fn check_held(s: &[u8]) -> Check
+    ensures { λ r. ⌜ r ≡ least (heldRungs (now (s .entry))) ⌝ }
+{
+    let n = value_count(s);
+    let a = check_indexes(s, codes::TRACE, starts_at(s), n, starting_count(s) as u16);
+    let Check::Pass = a else {
+        return a;
+    };
+    check_indexes(s, codes::TRACE, supplies_at(s), n, supply_count(s))
+}
+
+// Number 5.
+fn check_entries(s: &[u8]) -> Check
+    ensures { λ r. ⌜ r ≡ least (entryRungs (now (s .entry))) ⌝ }
+{
+    let a = entries::check_nodes(
+        s,
+        codes::VALUE,
+        codes::TRACE,
+        base::word_at(s, 3),
+        VALUES_AT,
+        0,
+        value_count(s),
+    );
+    let Check::Pass = a else {
+        return a;
+    };
+    check_held(s)
+}
+
+// Numbers 1 to 4: the parts of the trace are there.
+pub fn check_frame(s: &[u8]) -> Check
+    ensures { λ r. ⌜ r ≡ least (frameRungs (now (s .entry))) ⌝ }
+{
+    let a = opening::opened(s, codes::TRACE);
+    let Check::Pass = a else {
+        return a;
+    };
+    check_size(s)
+}
+
+// An entry of two fields as one number of 40 bits: its code, then its fields.
+fn key_at(s: &[u8], kind: u8, base: u32, i: u16) -> u64
+    ensures { λ r. ⌜ r ≡ keyOf (now (s .entry)) kind base i ⌝ }
+{
+    let op = entries::code_at(s, kind, base, i);
+    let left = entries::field_at(s, kind, base, i, 0);
+    let right = entries::field_at(s, kind, base, i, 1);
+    op as u64 * 4294967296 + left as u64 * 65536 + right as u64
+}
+
+// The slots of up to 1,024 filed entries: two below each entry, then the roots.
+const SLOTS: usize = 3069;
+
+// Where the way of a key ends: at a slot that is free, or at an entry of that key. A way that is too long or leaves the slots is lost.
+pub enum Way {
+    Free(usize),
+    Twin,
+    Lost,
+}
+
+// The way of a key from its root. A slot holds 0, or an entry's index and 1; below an entry the key's next bit chooses the slot.
+// A key has 40 bits, so that 41 entries are enough.
+fn way_of(s: &[u8], kind: u8, base: u32, slots: &[u16], own: u64) -> Way
+    ensures { λ r. ⌜ r ≡ wayOf (now (s .entry)) kind base (now (slots .entry)) own ⌝ }
+{
+    let mut key = own;
+    let mut slot = 2048 + (own % 1021) as usize;
+    let mut left: u8 = 41;
+    while 0 < left {
+        if slots.len() <= slot {
+            return Way::Lost;
+        }
+        let held = slots[slot];
+        if held == 0 {
+            return Way::Free(slot);
+        }
+        let at = held - 1;
+        if key_at(s, kind, base, at) == own {
+            return Way::Twin;
+        }
+        slot = 2 * at as usize + (key % 2) as usize;
+        key = key / 2;
+        left -= 1;
+    }
+    Way::Lost
+}
+
+// Number 6 of entries of two fields, over free slots: each entry is filed at the end of its way.
+// Where a way is lost, all entries are compared.
+fn check_filed(s: &[u8], kind: u8, file: u8, base: u32, slots: &mut [u16], count: u16) -> Check
+    requires { ⌜ AllFree (now slots) ⌝ }
+    ensures { λ r. ⌜ r ≡ least (twinRung (now (s .entry)) kind file base count ∷ []) ⌝ }
+{
+    let mut i = 0;
+    while i < count {
+        let way = way_of(s, kind, base, slots, key_at(s, kind, base, i));
+        match way {
+            Way::Free(slot) => slots[slot] = i + 1,
+            Way::Twin => return answers::refuse(6, file, i as usize),
+            Way::Lost => return entries::check_twins(s, kind, file, base, count),
+        }
+        i += 1;
+    }
+    Check::Pass
+}
+
+// Number 6 of entries of two fields, in time that grows with their count.
+pub fn check_unlike(s: &[u8], kind: u8, file: u8, base: u32, count: u16) -> Check
+    ensures { λ r. ⌜ r ≡ least (twinRung (now (s .entry)) kind file base count ∷ []) ⌝ }
+{
+    let mut slots = [0u16; SLOTS];
+    check_filed(s, kind, file, base, &mut slots, count)
+}
+
+// Numbers 1 to 6 of a trace.
+pub fn check_trace(s: &[u8]) -> Check
+    ensures { λ r. ⌜ r ≡ least (traceRungs (now (s .entry))) ⌝ }
+{
+    let a = check_frame(s);
+    let Check::Pass = a else {
+        return a;
+    };
+    let b = check_entries(s);
+    let Check::Pass = b else {
+        return b;
+    };
+    check_unlike(s, codes::VALUE, codes::TRACE, VALUES_AT, value_count(s))
+}

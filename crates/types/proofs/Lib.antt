@@ -1,0 +1,4 @@
+pub mod ForestLaws
+pub mod TypeLaws
+pub mod PrefixLaws
+pub mod Version1Laws

@@ -1,0 +1,265 @@
+//! Traces of a named kind, for a table and an accepted list.
+
+use second::list::{List, Statement, COMPARE, DECRYPT, FRESH, LEFT, PAIR, RECEIVE, RIGHT, SEND};
+use second::service::{judged, run};
+use second::table::Table;
+use second::trace::{Trace, Value, CHANNEL, KEY, PLAIN};
+use second::types::Type;
+
+use crate::kind::TraceKind;
+use crate::raw::RawTrace;
+use crate::rng::Rng;
+use crate::solver::{Ground, Shape, Solver};
+use crate::trace_faults;
+
+/// A trace of this kind; none if the table and list give no occasion for it, or none was found.
+pub fn trace(rng: &mut Rng, table: &[u8], list: &[u8], kind: TraceKind) -> Option<Vec<u8>> {
+    let (parsed, judged_list) = judged(table, list).ok()?;
+    match kind {
+        TraceKind::Random => Some(random(rng, &parsed, &judged_list)),
+        TraceKind::Ending(ending) => {
+            let places = places_of(&judged_list, ending);
+            for _ in 0..6 {
+                let at = rng.pick_any(&places)?;
+                if let Some(made) = reach(rng, &parsed, &judged_list, at, ending) {
+                    let bytes = RawTrace::of(&made).bytes();
+                    let (mut values, mut log) = (vec![0; 5 * 1536], vec![0; 5 * 512]);
+                    let answer = run(table, list, &bytes, &mut values, &mut log);
+                    if answer[0] == 0 && answer[3] == u64::from(ending) {
+                        return Some(bytes);
+                    }
+                }
+            }
+            None
+        }
+        TraceKind::Fault(number) => {
+            let fine = random(rng, &parsed, &judged_list);
+            trace_faults::faulty(rng, &fine, &parsed, &judged_list, number)
+        }
+    }
+}
+
+/// The statements at which a run can have this ending.
+fn places_of(list: &List, ending: u8) -> Vec<usize> {
+    let ops: &[u8] = match ending {
+        0 => return vec![list.statements.len()],
+        1 => &[RECEIVE, FRESH],
+        2 => &[COMPARE],
+        3 | 5 => &[DECRYPT],
+        4 => &[RECEIVE],
+        _ => &[FRESH],
+    };
+    let fits = |s: &Statement| match ending {
+        4 | 5 => list.types[s.s] != Type::Message,
+        7 => list.types[s.s] != Type::Name,
+        _ => true,
+    };
+    (0..list.statements.len())
+        .filter(|&i| ops.contains(&list.statements[i].op) && fits(&list.statements[i]))
+        .collect()
+}
+
+/// A trace on which every statement before the given one goes well and this one ends the run so, as far as can be told.
+fn reach(rng: &mut Rng, table: &Table, list: &List, at: usize, ending: u8) -> Option<Trace> {
+    let mut plan = Plan {
+        list,
+        solver: Solver::default(),
+        registers: Vec::new(),
+        starting: Vec::new(),
+        supply: Vec::new(),
+    };
+    for s in table.free() {
+        let node = plan.solver.unknown(&list.types[s]);
+        plan.starting.push(node);
+        plan.registers.push(node);
+    }
+    for &statement in &list.statements[..at] {
+        plan.goes_well(rng, statement)?;
+    }
+    if ending != 0 {
+        plan.ends(rng, list.statements[at], ending)?;
+    }
+    // Without a supply left nothing may follow.
+    if ending != 1 && rng.once_in(2) {
+        for _ in 0..rng.within(1, 4) {
+            let node = plan.solver.unknown(&Type::Message);
+            plan.supply.push(node);
+        }
+    }
+    plan.trace(rng)
+}
+
+struct Plan<'a> {
+    list: &'a List,
+    solver: Solver,
+    registers: Vec<usize>,
+    starting: Vec<usize>,
+    supply: Vec<usize>,
+}
+
+impl Plan<'_> {
+    fn goes_well(&mut self, rng: &mut Rng, statement: Statement) -> Option<()> {
+        let Statement { op, p, q, s } = statement;
+        let solver = &mut self.solver;
+        let node = match op {
+            SEND => return Some(()),
+            COMPARE => return solver.merge(self.registers[p], self.registers[q]).then_some(()),
+            RECEIVE => {
+                // Now and then a value that is there already.
+                let node = if rng.once_in(4) && !self.registers.is_empty() {
+                    rng.pick(&self.registers)
+                } else {
+                    solver.unknown(&Type::Message)
+                };
+                let node = if solver.clone().narrow(node, &self.list.types[s]) {
+                    node
+                } else {
+                    solver.unknown(&Type::Message)
+                };
+                solver.narrow(node, &self.list.types[s]);
+                self.supply.push(node);
+                node
+            }
+            FRESH => {
+                let kind = match self.list.types[s] {
+                    Type::Channel => CHANNEL,
+                    Type::ShKey => KEY,
+                    _ => rng.pick(&[PLAIN, CHANNEL, KEY]),
+                };
+                let node = solver.new_atom(kind);
+                self.supply.push(node);
+                node
+            }
+            LEFT | RIGHT => {
+                let (a, b) = (solver.unknown(&Type::Message), solver.unknown(&Type::Message));
+                let pair = solver.pair(a, b);
+                solver.merge(self.registers[p], pair).then_some(())?;
+                if op == LEFT {
+                    a
+                } else {
+                    b
+                }
+            }
+            DECRYPT => {
+                let inside = solver.unknown(&self.list.types[s]);
+                let whole = solver.encrypted(inside, self.registers[q]);
+                solver.merge(self.registers[p], whole).then_some(())?;
+                inside
+            }
+            PAIR => solver.pair(self.registers[p], self.registers[q]),
+            _ => solver.encrypted(self.registers[p], self.registers[q]),
+        };
+        self.registers.push(node);
+        Some(())
+    }
+
+    /// What makes the statement end the run with this ending.
+    fn ends(&mut self, rng: &mut Rng, statement: Statement, ending: u8) -> Option<()> {
+        let Statement { p, q, s, .. } = statement;
+        let wanted = &self.list.types[s];
+        let solver = &mut self.solver;
+        match ending {
+            // No supply left, or values that were never made equal.
+            1 | 2 => {}
+            3 => {
+                if solver.shape(self.registers[p]).is_none() {
+                    let inside = solver.unknown(&Type::Message);
+                    let key = solver.new_atom(KEY);
+                    let whole = solver.encrypted(inside, key);
+                    solver.merge(self.registers[p], whole).then_some(())?;
+                }
+            }
+            4 => {
+                let node = solver.lacking(rng, wanted)?;
+                self.supply.push(node);
+            }
+            5 => {
+                let inside = solver.lacking(rng, wanted)?;
+                let whole = solver.encrypted(inside, self.registers[q]);
+                solver.merge(self.registers[p], whole).then_some(())?;
+            }
+            6 => {
+                let atoms: Vec<usize> = self
+                    .registers
+                    .iter()
+                    .copied()
+                    .filter(|&r| matches!(solver.shape(r), Some(Shape::Atom { .. })))
+                    .chain(self.starting.iter().copied())
+                    .collect();
+                let node = match rng.pick_any(&atoms) {
+                    Some(held) if rng.once_in(2) => held,
+                    _ => {
+                        let (a, b) = (solver.new_atom(PLAIN), solver.new_atom(KEY));
+                        solver.pair(a, b)
+                    }
+                };
+                self.supply.push(node);
+            }
+            _ => {
+                let kind = if *wanted == Type::Channel { KEY } else { CHANNEL };
+                let node = solver.new_atom(rng.pick(&[PLAIN, kind]));
+                self.supply.push(node);
+            }
+        }
+        Some(())
+    }
+
+    /// The trace: starting values and supply, and now and then other values, those of builds among them.
+    fn trace(mut self, rng: &mut Rng) -> Option<Trace> {
+        let mut ground = Ground::default();
+        if rng.once_in(3) {
+            let extra: Vec<usize> = self.registers.iter().copied().filter(|_| rng.once_in(4)).collect();
+            for node in extra {
+                self.solver.ground(rng, node, &mut ground)?;
+            }
+        }
+        let mut indexes = |nodes: &[usize]| -> Option<Vec<usize>> {
+            nodes
+                .iter()
+                .map(|&node| self.solver.ground(rng, node, &mut ground))
+                .collect()
+        };
+        let starting = indexes(&self.starting)?;
+        let supply = indexes(&self.supply)?;
+        let values = ground.values;
+        (values.len() <= 1024).then_some(Trace {
+            values,
+            starting,
+            supply,
+        })
+    }
+}
+
+/// Random values; the starting values have their types, so that a run begins.
+fn random(rng: &mut Rng, table: &Table, list: &List) -> Vec<u8> {
+    let mut solver = Solver::default();
+    let mut ground = Ground::default();
+    let start = |s: &usize| solver.unknown(&list.types[*s]);
+    let nodes: Vec<usize> = table.free().iter().map(start).collect();
+    let mut starting = Vec::new();
+    for node in nodes {
+        starting.push(solver.ground(rng, node, &mut ground).expect("no value holds itself"));
+    }
+    let most = rng.pick(&[4, 20, 20, 200, 900]);
+    for _ in 0..rng.below(most) {
+        let count = ground.values.len();
+        let value = match rng.below(4) {
+            1 if count > 0 => Value::Pair(rng.below(count), rng.below(count)),
+            2 if count > 0 => Value::Encrypted(rng.below(count), rng.below(count)),
+            _ => Value::Atom {
+                kind: rng.below(3),
+                number: rng.below(20),
+            },
+        };
+        ground.place(value);
+    }
+    let count = ground.values.len();
+    let length = if count == 0 { 0 } else { rng.pick(&[0, 3, 20, 128]) };
+    let supply = (0..length).map(|_| rng.below(count)).collect();
+    RawTrace::of(&Trace {
+        values: ground.values,
+        starting,
+        supply,
+    })
+    .bytes()
+}
