@@ -1,3 +1,6 @@
 -- Laws of the ladder, for the proofs of the readers.
 pub mod Ladder
+pub mod Layers
+pub mod Passes
+pub mod Leads
 pub mod Least

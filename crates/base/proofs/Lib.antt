@@ -2,3 +2,4 @@
 pub mod Searched
 pub mod Bounds
 pub mod SomeLaws
+pub mod BothLaws

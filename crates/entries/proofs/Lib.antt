@@ -1,2 +1,5 @@
 -- Laws of entries, for the proofs of the readers.
 pub mod Places
+pub mod Unlike
+pub mod Words
+pub mod Tiling

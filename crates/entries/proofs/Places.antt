@@ -17,6 +17,11 @@ pub place-small : (kind base i : ℕ) → base < 4294967296 → i < 65536 → pl
 unfolding placeOf
 place-small kind base i h k = omega (arith, entry-far kind i k)
 
+-- an entry stands at the first one's place or later
+pub place-from : (kind base i : ℕ) → base ≤ placeOf kind base i
+unfolding placeOf
+place-from kind base i = omega arith
+
 -- a later entry stands later
 pub place-rises : (kind base i j : ℕ) → i ≤ j → placeOf kind base i ≤ placeOf kind base j
 unfolding placeOf

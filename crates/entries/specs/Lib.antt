@@ -1,2 +1,4 @@
 pub mod Fields
 pub mod Faults
+pub mod Words
+pub mod Tiling

@@ -18,12 +18,8 @@ use Rattle.opening.specs.Opening.{marked, version}
 use Rattle.list.specs.Layout.{symbols, statements, pastType, typeAt, statementsAt, countsOk, lengthOk, typeOk, statementOk}
 use Rattle.list.specs.Faults.{frameRungs, typeRung, typeRungs, statementRung, listRungs}
 use Rattle.list.proofs.Walks.{type-at-next, type-at-rises}
-use Rattle.list.proofs.Layers.{layers-pass, whole-pass, rung-pass, rung-passes}
-
--- both tests of two hold
-pub both-true : (a b : Bool) → both a b ≡ true → (a ≡ true) × (b ≡ true)
-both-true true b e = (refl, e)
-both-true false b e = let z : _≡_ {A = ℕ} 0 1 = cc in absurd (omega arith)
+use Rattle.answers.proofs.Passes.{layers-passed, whole-passed, first-passed, rung-passes}
+use Rattle.base.proofs.BothLaws.{both-parts}
 
 -- the header is there with its mark, the version is 1, the counts are within their limits, and the length is exact
 pub record Framed (s : List ℕ) : Type 0 where
@@ -40,11 +36,11 @@ frame-passes s = (λ e. to e, λ f. from f)
   where
     to : least (frameRungs s) ≡ Pass → Framed s
     to e =
-        let (m, e₁) = whole-pass 1 1 (marked 1 s) _ e in
-        let (v, e₂) = whole-pass 2 1 (eqb (version s) 1) _ e₁ in
-        let (c, e₃) = whole-pass 3 1 (countsOk s) _ e₂ in
-        let (l, e₄) = whole-pass 4 1 (lengthOk s) _ e₃ in
-        let (a, b) = both-true (leb (symbols s) 96) (leb (statements s) 512) c in
+        let (m, e₁) = whole-passed 1 1 (marked 1 s) _ e in
+        let (v, e₂) = whole-passed 2 1 (eqb (version s) 1) _ e₁ in
+        let (c, e₃) = whole-passed 3 1 (countsOk s) _ e₂ in
+        let (l, e₄) = whole-passed 4 1 (lengthOk s) _ e₃ in
+        let (a, b) = both-parts (leb (symbols s) 96) (leb (statements s) 512) c in
         record { mark-right = m; version-one = eqb-true (version s) 1 v; few-symbols = leb-true (symbols s) 96 a; few-statements = leb-true (statements s) 512 b; length-exact = eqb-true (length s) (statementsAt s + 4 * statements s) l }
 
     from : Framed s → least (frameRungs s) ≡ Pass
@@ -58,7 +54,7 @@ frame-passes s = (λ e. to e, λ f. from f)
 -- a list with the mark has a whole header
 pub header-there : (s : List ℕ) → marked 1 s ≡ true → 8 ≤ length s
 unfolding marked header byte
-header-there s e = leb-true 8 (length s) (both-true (leb 8 (length s)) _ e .0)
+header-there s e = leb-true 8 (length s) (both-parts (leb 8 (length s)) _ e .0)
 
 -- where the length is exact, each type ends before the statements begin, and so inside the list
 pub type-inside : (s : List ℕ) (i : ℕ) → length s ≡ statementsAt s + 4 * statements s → i < symbols s → pastType s (typeAt s i) ≤ length s
@@ -93,12 +89,12 @@ pub record Listed (s : List ℕ) (free : ℕ) : Type 0 where
 
 -- 1 to 5 pass exactly if that holds
 pub list-passes : (s : List ℕ) (free : ℕ) → (least (listRungs s free) ≡ Pass) ↔ Listed s free
-list-passes s free = (λ e. to (layers-pass (typeRungs s) (statementRung s free ∷ []) e), λ l. from l)
+list-passes s free = (λ e. to (layers-passed (typeRungs s) (statementRung s free ∷ []) e), λ l. from l)
   where
     to : (least (typeRungs s) ≡ Pass) × (least (statementRung s free ∷ []) ≡ Pass) → Listed s free
     to (t, p) =
-        let (f, q) = layers-pass (frameRungs s) (typeRung s ∷ []) t in
-        record { framed = frame-passes s .0 f; types-right = rung-pass (typeRung s) q; statements-right = rung-pass (statementRung s free) p }
+        let (f, q) = layers-passed (frameRungs s) (typeRung s ∷ []) t in
+        record { framed = frame-passes s .0 f; types-right = first-passed (typeRung s) [] q; statements-right = first-passed (statementRung s free) [] p }
 
     from : Listed s free → least (listRungs s free) ≡ Pass
     from l =

@@ -1,7 +1,6 @@
 -- Laws of the statement list, for the proofs here and in the crates above.
 pub mod Walks
 pub mod Wanted
-pub mod Layers
 pub mod Framed
 pub mod Parts
 pub mod TypesExact

@@ -18,8 +18,9 @@ use Rattle.list.specs.Layout.{symbols, bodyAt, pastType, typeAt, wants, 
 use Rattle.list.specs.Faults.{frameRungs, typeRung, typeRungs}
 use Rattle.list.specs.TypeOf.{passed, hasType, typeBytes, partOf}
 use Rattle.list.specs.declared.Part.the-variants.{At, Nothing}
-use Rattle.list.proofs.Layers.{layers-pass, rung-pass}
-use Rattle.list.proofs.Framed.{Framed, frame-passes, type-inside, both-true}
+use Rattle.answers.proofs.Passes.{layers-passed, first-passed}
+use Rattle.base.proofs.BothLaws.{both-parts}
+use Rattle.list.proofs.Framed.{Framed, frame-passes, type-inside}
 
 -- a type whose bytes are there is tested; one that runs past the end is not in order
 pub type-there : (s : List ℕ) (at e : ℕ) → e ≡ pastType s at → e ≤ length s → wants (version s) 1 (take (e - (at + 1)) (drop (at + 1) s)) ≡ typeOkAt s at
@@ -55,9 +56,9 @@ pub record Typed (s : List ℕ) (x : ℕ) : Type 0 where
 pub has-type : (s : List ℕ) (x : ℕ) → hasType s x ≡ true → Typed s x
 unfolding hasType
 has-type s x e =
-    let (p, l) = both-true (passed (least (typeRungs s))) (ltb x (symbols s)) e in
-    let (f, t) = layers-pass (frameRungs s) (typeRung s ∷ []) (pass (least (typeRungs s)) p) in
-    record { framed = frame-passes s .0 f; types-right = rung-pass (typeRung s) t; among = ltb-true x (symbols s) l }
+    let (p, l) = both-parts (passed (least (typeRungs s))) (ltb x (symbols s)) e in
+    let (f, t) = layers-passed (frameRungs s) (typeRung s ∷ []) (pass (least (typeRungs s)) p) in
+    record { framed = frame-passes s .0 f; types-right = first-passed (typeRung s) [] t; among = ltb-true x (symbols s) l }
   where
     pass : (a : Check) → passed a ≡ true → a ≡ Pass
     pass Pass e = refl

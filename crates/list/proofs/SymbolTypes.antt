@@ -26,8 +26,9 @@ use Rattle.list.specs.Layout.{symbols, bodyAt, pastType, typeAt, wants, 
 use Rattle.list.specs.Faults.{frameRungs, typeRung, typeRungs}
 use Rattle.list.specs.TypeOf.{passed, hasType, typeBytes, partOf, FrameFault, MalformedType}
 use Rattle.list.specs.declared.Part.the-variants.{At, Nothing}
-use Rattle.list.proofs.Layers.{layers-pass, rung-pass, rung-passes}
-use Rattle.list.proofs.Framed.{Framed, frame-passes, type-inside, both-true}
+use Rattle.answers.proofs.Passes.{layers-passed, first-passed, rung-passes}
+use Rattle.base.proofs.BothLaws.{both-parts}
+use Rattle.list.proofs.Framed.{Framed, frame-passes, type-inside}
 use Rattle.list.proofs.Parts.{has-type}
 use Rattle.list.proofs.TypesExact.{types-exact, type-once}
 use Rattle.list.proofs.LeastFault.{frame-least-fault}
@@ -37,7 +38,7 @@ pub type-ok-exact : (s : List ℕ) (i : ℕ) → Framed s → i < symbols s → 
 unfolding typeOk typeOkAt
 type-ok-exact s i f h =
     let p = typeAt s i in (
-      λ e. types-exact (bodyAt s p) .0 (rw (f .version-one) at (both-true (leb (pastType s p) (length s)) (wants (version s) 1 (bodyAt s p)) e .1)),
+      λ e. types-exact (bodyAt s p) .0 (rw (f .version-one) at (both-parts (leb (pastType s p) (length s)) (wants (version s) 1 (bodyAt s p)) e .1)),
       λ w. rw (le-leb (pastType s p) (length s) (type-inside s i (f .length-exact) h), f .version-one) (types-exact (bodyAt s p) .1 w),
     )
 
@@ -57,7 +58,7 @@ fault-none s y f p = go (rw p at (frame-least-fault s))
 
 -- and of the types, that none is malformed
 none-malformed : (s : List ℕ) → MalformedType s → (least (frameRungs s) ≡ Pass) × (least (typeRung s ∷ []) ≡ Pass) → ⊥
-none-malformed s (i, h, n) (p, q) = let (A, e) = type-ok-exact s i (frame-passes s .0 p) h .0 (rung-pass (typeRung s) q i h) in n A e
+none-malformed s (i, h, n) (p, q) = let (A, e) = type-ok-exact s i (frame-passes s .0 p) h .0 (first-passed (typeRung s) [] q i h) in n A e
 
 -- a list that has the symbol's type, or hands out nothing
 module _ (s : List ℕ) (x : ℕ) where
@@ -128,8 +129,8 @@ module _ (s : List ℕ) (x : ℕ) where
       to (Refuse y) q (lowest f m) e = inl (y, f)
 
       from : FrameFault s ⊎ (MalformedType s ⊎ (symbols s ≤ x)) → typeBytes s x ≡ []
-      from (inl (y, f)) = not-passed λ p. fault-none s y f (layers-pass (frameRungs s) (typeRung s ∷ []) p .0)
-      from (inr (inl m)) = not-passed λ p. none-malformed s m (layers-pass (frameRungs s) (typeRung s ∷ []) p)
+      from (inl (y, f)) = not-passed λ p. fault-none s y f (layers-passed (frameRungs s) (typeRung s ∷ []) p .0)
+      from (inr (inl m)) = not-passed λ p. none-malformed s m (layers-passed (frameRungs s) (typeRung s ∷ []) p)
       from (inr (inr h)) = past-symbols h
 
   -- and otherwise it is the bytes of exactly one type

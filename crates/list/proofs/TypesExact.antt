@@ -21,7 +21,7 @@ use Rattle.types.specs.Prefix.{Node, n-message, n-basic, n-cipher, n-pair, part
 use Rattle.types.specs.Version1.{types1, code1, nodeOf1, codes1, T, bytes}
 use Rattle.types.proofs.Version1Laws.{code-laws1, once1, byte-unknown}
 use Rattle.list.specs.Layout.{wants}
-use Rattle.list.proofs.Framed.{both-true}
+use Rattle.base.proofs.BothLaws.{both-parts}
 
 -- ── The two tables of type codes agree ──
 
@@ -53,7 +53,7 @@ codes-agree b = go (decLt b 6)
 pub code-class : (b n : ℕ) → follows codes1 b ≡ some n → (typeKnown 1 b ≡ true) × (typeParts b ≡ n)
 unfolding sameClass
 code-class b n e =
-    let (k, p) = both-true (typeKnown 1 b) (eqb (typeParts b) n) (rw e at (codes-agree b)) in
+    let (k, p) = both-parts (typeKnown 1 b) (eqb (typeParts b) n) (rw e at (codes-agree b)) in
     (k, eqb-true (typeParts b) n p)
 
 -- and a code that is known here is known there
@@ -63,7 +63,7 @@ code-known b k = go (follows codes1 b) (codes-agree b)
   where
     go : (o : Option ℕ) → sameClass o (typeKnown 1 b) (typeParts b) ≡ true → o ≡ some (typeParts b)
     go none e = let z : _≡_ {A = Bool} true false = sym e ∙ rw k in let y : _≡_ {A = ℕ} 0 1 = cc in absurd (omega arith)
-    go (some n) e = ap some (sym (eqb-true (typeParts b) n (both-true (typeKnown 1 b) (eqb (typeParts b) n) e .1)))
+    go (some n) e = ap some (sym (eqb-true (typeParts b) n (both-parts (typeKnown 1 b) (eqb (typeParts b) n) e .1)))
 
 -- ── A list of types ──
 
@@ -112,7 +112,7 @@ unfolding wants
 wanted-types n [] e = let q : n ≡ 0 = eqb-true n 0 e in rw q no-type
 wanted-types zero (b ∷ r) e = let z : _≡_ {A = ℕ} 0 1 = cc in absurd (omega arith)
 wanted-types (suc n) (b ∷ r) e =
-    let (k, w) = both-true (typeKnown 1 b) (wants 1 (n + typeParts b) r) e in
+    let (k, w) = both-parts (typeKnown 1 b) (wants 1 (n + typeParts b) r) e in
     one-more n b r k (wanted-types (n + typeParts b) r w)
 
 -- the reader's turn at a type's first byte

@@ -1,14 +1,14 @@
 -- The faults of a statement list by itself, numbers 1 to 5. Assumes nothing: these are definitions.
 use mathlib.Core.List.{List, [], _∷_, _++_}
 use Prim.Native.Nat.{ℕ}
-use Rattle.answers.specs.Ladder.{Rung, whole}
-use Rattle.opening.specs.Opening.{openRungs}
+use Rattle.answers.specs.Ladder.{Rung}
+use Rattle.opening.specs.Opening.{framed}
 use Rattle.entries.specs.Fields.{placeOf}
 use Rattle.list.specs.Layout.{symbols, statements, typeAt, statementsAt, countsOk, lengthOk, typeOk, statementOk}
 
 -- 1 to 4: header and mark, version, counts, length
 abbrev pub frameRungs : List ℕ → List Rung
-frameRungs s = openRungs 1 s ++ (whole 3 1 (countsOk s) ∷ whole 4 1 (lengthOk s) ∷ [])
+frameRungs s = framed 1 s (countsOk s) (lengthOk s)
 
 -- 5: a type, at the offset of its length byte
 abbrev pub typeRung : List ℕ → Rung

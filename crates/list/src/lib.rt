@@ -70,17 +70,7 @@ fn length_ok(s: &[u8]) -> bool
 pub fn check_frame(s: &[u8]) -> Check
     ensures { λ r. ⌜ r ≡ least (frameRungs (now (s .entry))) ⌝ }
 {
-    let a = opening::opened(s, codes::LIST);
-    let Check::Pass = a else {
-        return a;
-    };
-    if !counts_ok(s) {
-        return answers::refuse(3, codes::LIST, 0);
-    }
-    if !length_ok(s) {
-        return answers::refuse(4, codes::LIST, 0);
-    }
-    Check::Pass
+    opening::check_frame(s, codes::LIST, counts_ok(s), length_ok(s))
 }
 
 // The bytes are exactly one type. One is wanted at first; each code takes one off, and adds those that follow it.

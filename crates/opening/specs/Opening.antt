@@ -1,6 +1,6 @@
--- How each of the three files opens: its mark, then a 16-bit version. Assumes nothing: these are definitions.
+-- How each of the three files is framed: its mark, a 16-bit version, counts, and the length. Assumes nothing: these are definitions.
 use mathlib.Core.Bool.{Bool}
-use mathlib.Core.List.{List, [], _∷_}
+use mathlib.Core.List.{List, [], _∷_, _++_}
 use Prim.Native.Nat.{ℕ}
 use lib.Dec.{leb, eqb}
 use lib.ListN.{length}
@@ -22,3 +22,7 @@ version s = word s 3
 -- numbers 1 and 2
 abbrev pub openRungs : ℕ → List ℕ → List Rung
 openRungs file s = whole 1 file (marked file s) ∷ whole 2 file (eqb (version s) 1) ∷ []
+
+-- numbers 1 to 4, where it is known whether the counts are within their limits and the length is what they say
+abbrev pub framed : ℕ → List ℕ → Bool → Bool → List Rung
+framed file s counts size = openRungs file s ++ (whole 3 file counts ∷ whole 4 file size ∷ [])

@@ -1,8 +1,8 @@
-// How each of the three files opens: numbers 1 and 2.
+// How each of the three files is framed: numbers 1 to 4.
 use answers::Check;
 ghost use mathlib.Core.Path.{_≡_};
 ghost use Rattle.answers.specs.Ladder.{least};
-ghost use Rattle.opening.specs.Opening.{marked, openRungs};
+ghost use Rattle.opening.specs.Opening.{marked, openRungs, framed};
 
 // The whole header is there, and the mark is the file's.
 fn is_marked(s: &[u8], file: u8) -> bool
@@ -19,7 +19,7 @@ fn is_marked(s: &[u8], file: u8) -> bool
 }
 
 // Numbers 1 and 2 of a file.
-pub fn opened(s: &[u8], file: u8) -> Check
+fn opened(s: &[u8], file: u8) -> Check
     ensures { λ r. ⌜ r ≡ least (openRungs file (now (s .entry))) ⌝ }
 {
     if !is_marked(s, file) {
@@ -29,4 +29,21 @@ pub fn opened(s: &[u8], file: u8) -> Check
         return Check::Pass;
     }
     answers::refuse(2, file, 0)
+}
+
+// Numbers 1 to 4 of a file: its reader says whether the counts are within their limits, and whether the length is what they say.
+pub fn check_frame(s: &[u8], file: u8, counts: bool, size: bool) -> Check
+    ensures { λ r. ⌜ r ≡ least (framed file (now (s .entry)) counts size) ⌝ }
+{
+    let a = opened(s, file);
+    let Check::Pass = a else {
+        return a;
+    };
+    if !counts {
+        return answers::refuse(3, file, 0);
+    }
+    if !size {
+        return answers::refuse(4, file, 0);
+    }
+    Check::Pass
 }

@@ -1,15 +1,15 @@
 -- The faults of a role table that its frame and its entries show, numbers 1 to 5. Assumes nothing: these are definitions.
-use mathlib.Core.List.{List, [], _∷_, _++_}
+use mathlib.Core.List.{List, [], _∷_}
 use Prim.Native.Nat.{ℕ, _+_}
-use Rattle.answers.specs.Ladder.{Rung, whole}
-use Rattle.opening.specs.Opening.{version, openRungs}
+use Rattle.answers.specs.Ladder.{Rung}
+use Rattle.opening.specs.Opening.{version, framed}
 use Rattle.entries.specs.Fields.{placeOf}
 use Rattle.entries.specs.Faults.{nodeRung}
 use Rattle.table_layout.specs.Layout.{symbols, terms, steps, termsAt, stepsAt, countsOk, lengthOk, symbolOk, stepOk}
 
 -- 1 to 4: header, mark, version, counts, length
 abbrev pub frameRungs : List ℕ → List Rung
-frameRungs s = openRungs 0 s ++ (whole 3 0 (countsOk s) ∷ whole 4 0 (lengthOk s) ∷ [])
+frameRungs s = framed 0 s (countsOk s) (lengthOk s)
 
 -- 5: symbols, then terms, then steps, at their offsets
 abbrev pub symbolRung : List ℕ → Rung

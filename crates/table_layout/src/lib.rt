@@ -97,17 +97,7 @@ fn length_ok(s: &[u8]) -> bool
 pub fn check_frame(s: &[u8]) -> Check
     ensures { λ r. ⌜ r ≡ least (frameRungs (now (s .entry))) ⌝ }
 {
-    let a = opening::opened(s, codes::TABLE);
-    let Check::Pass = a else {
-        return a;
-    };
-    if !counts_ok(s) {
-        return answers::refuse(3, codes::TABLE, 0);
-    }
-    if !length_ok(s) {
-        return answers::refuse(4, codes::TABLE, 0);
-    }
-    Check::Pass
+    opening::check_frame(s, codes::TABLE, counts_ok(s), length_ok(s))
 }
 
 // Number 5: symbols, terms, steps.

@@ -97,7 +97,7 @@ pub fn check_terms(s: &[u8]) -> Check
     ensures { λ r. ⌜ r ≡ least (termRungs (now (s .entry))) ⌝ }
 {
     let count = table_layout::term_count(s) as u16;
-    let a = entries::check_twins(
+    let a = filing::check_unlike(
         s,
         codes::TERM,
         codes::TABLE,

@@ -1,24 +1,23 @@
 -- A trace that was read and is written again is the same file, so no second file holds the same. Assumes nothing.
 use mathlib.Core.Path.{_≡_, refl, sym, ap, _∙_}
-use mathlib.Core.Bool.{Bool, true, false}
-use mathlib.Core.List.{List, [], _∷_, _++_}
-use Prim.Native.Nat.{ℕ, zero, suc, _+_, _*_, _<_}
+use mathlib.Core.Bool.{true}
+use mathlib.Core.List.{List, _++_}
+use Prim.Native.Nat.{ℕ, _+_, _*_}
 use native.Mathlib.Omega.{arith}
 use lib.Dec.{leb, eqb}
 use lib.ListN.{length}
 use borrow.Author.Tests.{eqb-true}
-use Rattle.base.specs.Bytes.{byte, word}
-use Rattle.base.specs.Pick.{both}
+use Rattle.base.specs.Bytes.{byte}
 use Rattle.codes.specs.Marks.{mark, header}
 use Rattle.codes.specs.Rows.{width}
-use Rattle.opening.specs.Opening.{marked, version}
+use Rattle.opening.specs.Opening.{marked}
 use Rattle.trace.specs.Layout.{values, supplies, startings, startsAt, suppliesAt, indexPlace, index}
-use Rattle.trace.specs.Words.{Bytes}
-use Rattle.trace.specs.Tiling.{listed, joined, stretch, numberBytes, entryOf, entryBytes}
-use Rattle.trace.specs.Decoded.{Trace, traceOf, headerBytes, traceBytes}
+use Rattle.entries.specs.Words.{Bytes}
+use Rattle.entries.specs.Tiling.{listed, joined, stretch, numberBytes, entryOf}
+use Rattle.trace.specs.Decoded.{traceOf, headerBytes, traceBytes}
 use Rattle.trace.specs.Checked.{Framed}
-use Rattle.trace.proofs.Passed.{both-left, both-right}
-use Rattle.trace.proofs.Tiling.{listed-length, listed-add, stretch-whole, joined-all, word-bytes, entries-bytes}
+use Rattle.base.proofs.BothLaws.{both-left, both-right}
+use Rattle.entries.proofs.Tiling.{listed-length, listed-add, stretch-whole, joined-all, word-bytes, entries-bytes}
 
 -- 16-bit indexes from a base offset on, written again
 pub indexes-bytes : (s : List ℕ) → Bytes s → (base n : ℕ) → joined (numberBytes 2) (listed (index s base) 0 n) ≡ stretch s base (2 * n)
@@ -47,12 +46,13 @@ mark-bytes s e =
 stretches : (s : List ℕ) (p n q m : ℕ) → q ≡ p + n → stretch s p n ++ stretch s q m ≡ stretch s p (n + m)
 stretches s p n q m e = rw e (sym (listed-add (byte s) p n m))
 
+-- the header, written again
 header-bytes : (s : List ℕ) → Bytes s → Framed s → headerBytes (traceOf s) ≡ stretch s 0 10
 header-bytes s h f =
     rw (mark-bytes s (f .mark), word-bytes s h 3, listed-length (entryOf s 3 10) 0 (values s), word-bytes s h 5, listed-length (index s (suppliesAt s)) 0 (supplies s), word-bytes s h 7, listed-length (index s (startsAt s)) 0 (startings s))
     (unfold listed numberBytes in refl)
 
--- the values, the starting values and the supply follow the header
+-- the header, the values, the starting values and the supply, written again, are the file
 pub trace-bytes : (s : List ℕ) → Bytes s → Framed s → traceBytes (traceOf s) ≡ s
 trace-bytes s h f =
     let w : values s * width 3 ≡ 5 * values s = (unfold width byte in omega arith) in

@@ -1,12 +1,11 @@
 -- What numbers 1 to 6 rule out, said of a trace itself. Assumes nothing: these are definitions.
 use mathlib.Core.Path.{_≡_}
-use mathlib.Core.Bool.{Bool, true}
+use mathlib.Core.Bool.{true}
 use mathlib.Core.List.{List}
 use Prim.Native.Nat.{ℕ, _+_, _*_, _≤_, _<_}
 use lib.ListN.{length}
-use Rattle.entries.specs.Fields.{code, field}
 use Rattle.opening.specs.Opening.{marked, version}
-use Rattle.trace.specs.Layout.{values, supplies, startings, suppliesAt, starting, supply}
+use Rattle.trace.specs.Layout.{values, supplies, startings, suppliesAt, starting, supply, tag, left, right}
 
 -- after 1 to 4: the mark, the version, the limits of the counts, the length
 pub record Framed (s : List ℕ) : Type 0 where
@@ -16,16 +15,6 @@ pub record Framed (s : List ℕ) : Type 0 where
   pub few-supplies : supplies s ≤ 128
   pub few-startings : startings s ≤ 96
   pub whole-length : length s ≡ suppliesAt s + 2 * supplies s
-
--- value i of a trace: its tag, and its two numbers
-abbrev pub tag : List ℕ → ℕ → ℕ
-tag s i = code s 3 10 i
-
-abbrev pub left : List ℕ → ℕ → ℕ
-left s i = field s 3 10 i 0
-
-abbrev pub right : List ℕ → ℕ → ℕ
-right s i = field s 3 10 i 1
 
 -- a value of a trace: an atom of a known kind, or a pair or ciphertext of lower values
 pub data Value (s : List ℕ) (i : ℕ) : Type 0 where

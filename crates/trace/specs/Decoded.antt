@@ -1,11 +1,11 @@
 -- A trace as what it holds, and that as a file. Assumes nothing: these are definitions.
-use mathlib.Core.List.{List, [], _∷_, _++_}
+use mathlib.Core.List.{List, _++_}
 use Prim.Native.Nat.{ℕ}
 use lib.ListN.{length}
 use Rattle.codes.specs.Marks.{mark}
 use Rattle.opening.specs.Opening.{version}
 use Rattle.trace.specs.Layout as layout
-use Rattle.trace.specs.Tiling.{listed, joined, numberBytes, Entry, entryOf, entryBytes}
+use Rattle.entries.specs.Tiling.{listed, joined, numberBytes, Entry, entryOf, entryBytes}
 
 -- what a trace holds
 pub record Trace : Type 0 where

@@ -1,18 +1,14 @@
 -- The faults of a trace as rungs, numbers 1 to 6. Assumes nothing: these are definitions.
 use mathlib.Core.List.{List, [], _∷_, _++_}
 use Prim.Native.Nat.{ℕ}
-use Rattle.answers.specs.Ladder.{Rung, whole}
+use Rattle.answers.specs.Ladder.{Rung}
 use Rattle.entries.specs.Faults.{nodeRung, twinRung}
-use Rattle.opening.specs.Opening.{version, openRungs}
+use Rattle.opening.specs.Opening.{version, framed}
 use Rattle.trace.specs.Layout.{values, supplies, startings, startsAt, suppliesAt, indexPlace, indexOk, countsOk, lengthOk}
-
--- numbers 3 and 4: counts, length
-abbrev pub sizeRungs : List ℕ → List Rung
-sizeRungs s = whole 3 2 (countsOk s) ∷ whole 4 2 (lengthOk s) ∷ []
 
 -- numbers 1 to 4: the parts of the trace are there
 abbrev pub frameRungs : List ℕ → List Rung
-frameRungs s = openRungs 2 s ++ sizeRungs s
+frameRungs s = framed 2 s (countsOk s) (lengthOk s)
 
 -- number 5 of the values
 abbrev pub valueRung : List ℕ → Rung

@@ -6,6 +6,7 @@ use lib.Dec.{leb, ltb, eqb}
 use lib.ListN.{length}
 use Rattle.base.specs.Bytes.{byte, word}
 use Rattle.base.specs.Pick.{both}
+use Rattle.entries.specs.Fields.{code, field}
 
 -- the counts of the header: values, supplied values, starting values
 abbrev pub values : List ℕ → ℕ
@@ -38,6 +39,16 @@ starting s i = index s (startsAt s) i
 
 abbrev pub supply : List ℕ → ℕ → ℕ
 supply s i = index s (suppliesAt s) i
+
+-- value i: its tag, and its two numbers
+abbrev pub tag : List ℕ → ℕ → ℕ
+tag s i = code s 3 10 i
+
+abbrev pub left : List ℕ → ℕ → ℕ
+left s i = field s 3 10 i 0
+
+abbrev pub right : List ℕ → ℕ → ℕ
+right s i = field s 3 10 i 1
 
 -- an index lies below a limit
 unfoldable pub indexOk : List ℕ → ℕ → ℕ → ℕ → Bool

@@ -4,11 +4,8 @@ ghost use mathlib.Core.Path.{_≡_};
 ghost use mathlib.Core.List.{[], _∷_};
 ghost use Rattle.base.specs.Bytes.{word};
 ghost use Rattle.answers.specs.Ladder.{least};
-ghost use Rattle.entries.specs.Fields.{code, field};
-ghost use Rattle.entries.specs.Faults.{twinRung};
-ghost use Rattle.trace.specs.Filing.{keyOf, wayOf, AllFree};
-ghost use Rattle.trace.specs.Layout.{values, supplies, startings, startsAt, suppliesAt, starting, supply, indexPlace, index, indexOk, countsOk, lengthOk};
-ghost use Rattle.trace.specs.Faults.{sizeRungs, frameRungs, indexRung, heldRungs, entryRungs, traceRungs};
+ghost use Rattle.trace.specs.Layout.{values, supplies, startings, startsAt, suppliesAt, indexPlace, index, starting, supply, tag, left, right, countsOk, lengthOk};
+ghost use Rattle.trace.specs.Faults.{frameRungs, indexRung, heldRungs, entryRungs, traceRungs};
 
 // Where the values begin.
 pub const VALUES_AT: u32 = 10;
@@ -87,21 +84,21 @@ pub fn supply_at(s: &[u8], i: u16) -> usize
 
 // The tag of value i.
 pub fn value_tag(s: &[u8], i: u16) -> u8
-    ensures { λ r. ⌜ r ≡ code (now (s .entry)) 3 10 i ⌝ }
+    ensures { λ r. ⌜ r ≡ tag (now (s .entry)) i ⌝ }
 {
     entries::code_at(s, codes::VALUE, VALUES_AT, i)
 }
 
 // The first number of value i: an atom's kind, or a part.
 pub fn value_left(s: &[u8], i: u16) -> usize
-    ensures { λ r. ⌜ r ≡ field (now (s .entry)) 3 10 i 0 ⌝ }
+    ensures { λ r. ⌜ r ≡ left (now (s .entry)) i ⌝ }
 {
     entries::field_at(s, codes::VALUE, VALUES_AT, i, 0)
 }
 
 // The second number of value i: an atom's number, or a part.
 pub fn value_right(s: &[u8], i: u16) -> usize
-    ensures { λ r. ⌜ r ≡ field (now (s .entry)) 3 10 i 1 ⌝ }
+    ensures { λ r. ⌜ r ≡ right (now (s .entry)) i ⌝ }
 {
     entries::field_at(s, codes::VALUE, VALUES_AT, i, 1)
 }
@@ -123,19 +120,6 @@ fn length_ok(s: &[u8]) -> bool
     ensures { λ r. ⌜ r ≡ lengthOk (now (s .entry)) ⌝ }
 {
     s.len() == index_place(supplies_at(s), supply_count(s))
-}
-
-// Numbers 3 and 4.
-fn check_size(s: &[u8]) -> Check
-    ensures { λ r. ⌜ r ≡ least (sizeRungs (now (s .entry))) ⌝ }
-{
-    if !counts_ok(s) {
-        return answers::refuse(3, codes::TRACE, 0);
-    }
-    if length_ok(s) {
-        return Check::Pass;
-    }
-    answers::refuse(4, codes::TRACE, 0)
 }
 
 // Number 5 of 16-bit indexes from a base offset on: each lies below the limit.
@@ -187,85 +171,7 @@ fn check_entries(s: &[u8]) -> Check
 pub fn check_frame(s: &[u8]) -> Check
     ensures { λ r. ⌜ r ≡ least (frameRungs (now (s .entry))) ⌝ }
 {
-    let a = opening::opened(s, codes::TRACE);
-    let Check::Pass = a else {
-        return a;
-    };
-    check_size(s)
-}
-
-// An entry of two fields as one number of 40 bits: its code, then its fields.
-fn key_at(s: &[u8], kind: u8, base: u32, i: u16) -> u64
-    ensures { λ r. ⌜ r ≡ keyOf (now (s .entry)) kind base i ⌝ }
-{
-    let op = entries::code_at(s, kind, base, i);
-    let left = entries::field_at(s, kind, base, i, 0);
-    let right = entries::field_at(s, kind, base, i, 1);
-    op as u64 * 4294967296 + left as u64 * 65536 + right as u64
-}
-
-// The slots of up to 1,024 filed entries: two below each entry, then the roots.
-const SLOTS: usize = 3069;
-
-// Where the way of a key ends: at a slot that is free, or at an entry of that key. A way that is too long or leaves the slots is lost.
-pub enum Way {
-    Free(usize),
-    Twin,
-    Lost,
-}
-
-// The way of a key from its root. A slot holds 0, or an entry's index and 1; below an entry the key's next bit chooses the slot.
-// A key has 40 bits, so that 41 entries are enough.
-fn way_of(s: &[u8], kind: u8, base: u32, slots: &[u16], own: u64) -> Way
-    ensures { λ r. ⌜ r ≡ wayOf (now (s .entry)) kind base (now (slots .entry)) own ⌝ }
-{
-    let mut key = own;
-    let mut slot = 2048 + (own % 1021) as usize;
-    let mut left: u8 = 41;
-    while 0 < left {
-        if slots.len() <= slot {
-            return Way::Lost;
-        }
-        let held = slots[slot];
-        if held == 0 {
-            return Way::Free(slot);
-        }
-        let at = held - 1;
-        if key_at(s, kind, base, at) == own {
-            return Way::Twin;
-        }
-        slot = 2 * at as usize + (key % 2) as usize;
-        key = key / 2;
-        left -= 1;
-    }
-    Way::Lost
-}
-
-// Number 6 of entries of two fields, over free slots: each entry is filed at the end of its way.
-// Where a way is lost, all entries are compared.
-fn check_filed(s: &[u8], kind: u8, file: u8, base: u32, slots: &mut [u16], count: u16) -> Check
-    requires { ⌜ AllFree (now slots) ⌝ }
-    ensures { λ r. ⌜ r ≡ least (twinRung (now (s .entry)) kind file base count ∷ []) ⌝ }
-{
-    let mut i = 0;
-    while i < count {
-        let way = way_of(s, kind, base, slots, key_at(s, kind, base, i));
-        match way {
-            Way::Free(slot) => slots[slot] = i + 1,
-            Way::Twin => return answers::refuse(6, file, i as usize),
-            Way::Lost => return entries::check_twins(s, kind, file, base, count),
-        }
-        i += 1;
-    }
-    Check::Pass
-}
-
-// Number 6 of entries of two fields, in time that grows with their count.
-pub fn check_unlike(s: &[u8], kind: u8, file: u8, base: u32, count: u16) -> Check
-    ensures { λ r. ⌜ r ≡ least (twinRung (now (s .entry)) kind file base count ∷ []) ⌝ }
-{
-    let mut slots = [0u16; SLOTS];
-    check_filed(s, kind, file, base, &mut slots, count)
+    opening::check_frame(s, codes::TRACE, counts_ok(s), length_ok(s))
 }
 
 // Numbers 1 to 6 of a trace.
@@ -280,5 +186,5 @@ pub fn check_trace(s: &[u8]) -> Check
     let Check::Pass = b else {
         return b;
     };
-    check_unlike(s, codes::VALUE, codes::TRACE, VALUES_AT, value_count(s))
+    filing::check_unlike(s, codes::VALUE, codes::TRACE, VALUES_AT, value_count(s))
 }

@@ -1,5 +1,5 @@
 -- `check_list` meets its contract. Assumes nothing.
-use Rattle.list.proofs.Layers.{layer-refuses, layer-passes}
+use Rattle.answers.proofs.Layers.{layer-stops, layer-passes}
 use Rattle.list.specs.Faults.{typeRungs, statementRung}
 use mathlib.Core.List.{[], _∷_}
 use mathlib.Core.Path.{_∙_}
@@ -17,13 +17,13 @@ enum-told-2 : tie.Need-enum-told-2
 enum-told-2 c = search needs
 
 returns : tie.Need-returns
-returns c = layer-refuses (typeRungs (c .before .before .before .before .args .s .now)) (statementRung (c .before .before .before .before .args .s .now) (c .before .before .before .before .args .free) ∷ []) _ _ (c .before .before .check-types .ensures) (c .enum-told2 .given .1)
+returns c = layer-stops (typeRungs (c .before .before .before .before .args .s .now)) (statementRung (c .before .before .before .before .args .s .now) (c .before .before .before .before .args .free) ∷ []) (c .before .before .check-types .ensures) (c .enum-told2 .given .1)
 
 walk-statements-requires : tie.Need-walk-statements-requires
 walk-statements-requires c κs = search needs
 
 returns-2 : tie.Need-returns-2
-returns-2 c = c .walk-statements .ensures ∙ layer-passes (typeRungs (c .before .before .before .before .before .args .s .now)) (statementRung (c .before .before .before .before .before .args .s .now) (c .before .before .before .before .before .args .free) ∷ []) _ (c .before .before .before .check-types .ensures) (c .before .enum-told .given .1)
+returns-2 c = layer-passes (typeRungs (c .before .before .before .before .before .args .s .now)) (statementRung (c .before .before .before .before .before .args .s .now) (c .before .before .before .before .before .args .free) ∷ []) (c .before .before .before .check-types .ensures) (c .before .enum-told .given .1) (c .walk-statements .ensures)
 
 pub check-list-spec : {M : Type 1} → statement M
 check-list-spec =

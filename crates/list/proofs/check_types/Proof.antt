@@ -1,5 +1,5 @@
 -- `check_types` meets its contract. Assumes nothing.
-use Rattle.list.proofs.Layers.{layer-refuses, layer-passes}
+use Rattle.answers.proofs.Layers.{layer-stops, layer-passes}
 use Rattle.list.specs.Faults.{frameRungs, typeRung}
 use mathlib.Core.List.{[], _∷_}
 use mathlib.Core.Path.{_∙_}
@@ -17,13 +17,13 @@ enum-told-2 : tie.Need-enum-told-2
 enum-told-2 c = search needs
 
 returns : tie.Need-returns
-returns c = layer-refuses (frameRungs (c .before .before .before .before .args .s .now)) (typeRung (c .before .before .before .before .args .s .now) ∷ []) _ _ (c .before .before .check-frame .ensures) (c .enum-told2 .given .1)
+returns c = layer-stops (frameRungs (c .before .before .before .before .args .s .now)) (typeRung (c .before .before .before .before .args .s .now) ∷ []) (c .before .before .check-frame .ensures) (c .enum-told2 .given .1)
 
 walk-types-requires : tie.Need-walk-types-requires
 walk-types-requires c κs = search needs
 
 returns-2 : tie.Need-returns-2
-returns-2 c = c .walk-types .ensures ∙ layer-passes (frameRungs (c .before .before .before .before .before .args .s .now)) (typeRung (c .before .before .before .before .before .args .s .now) ∷ []) _ (c .before .before .before .check-frame .ensures) (c .before .enum-told .given .1)
+returns-2 c = layer-passes (frameRungs (c .before .before .before .before .before .args .s .now)) (typeRung (c .before .before .before .before .before .args .s .now) ∷ []) (c .before .before .before .check-frame .ensures) (c .before .enum-told .given .1) (c .walk-types .ensures)
 
 pub check-types-spec : {M : Type 1} → statement M
 check-types-spec =

@@ -9,7 +9,7 @@ use Rattle.table_naming.proofs.check_terms.Statement.{statement}
 use Rattle.table_naming.proofs.check_terms.Tie as tie
 use Rattle.table_naming.proofs.check_terms.Reads as reads
 use Rattle.table_naming.proofs.check_terms.Lts as lts
-use Rattle.entries.proofs.check_twins.Reads as check-twins-reads
+use Rattle.filing.proofs.check_unlike.Reads as check-unlike-reads
 use Rattle.table_layout.proofs.term_count.Reads as term-count-reads
 use Rattle.table_layout.proofs.terms_at.Reads as terms-at-reads
 use Rattle.table_naming.proofs.check_named.Reads as check-named-reads
@@ -27,8 +27,8 @@ terms-at-requires : tie.Need-terms-at-requires
 terms-at-requires c κs = search needs
 
 -- src/lib.rt:101:9
-check-twins-requires : tie.Need-check-twins-requires
-check-twins-requires c κs = search needs
+check-unlike-requires : tie.Need-check-unlike-requires
+check-unlike-requires c κs = search needs
 
 enum-told : tie.Need-enum-told
 enum-told c = search needs
@@ -41,7 +41,7 @@ enum-told-2 c = search needs
 returns : tie.Need-returns
 returns c =
     let s = c .before .before .before .before .before .before .args .s .now in
-    let e = rw (c .before .before .before .terms-at .ensures, c .before .before .before .before .term-count .ensures) at (c .before .before .check-twins .ensures) in
+    let e = rw (c .before .before .before .terms-at .ensures, c .before .before .before .before .term-count .ensures) at (c .before .before .check-unlike .ensures) in
     let h = c .enum-told2 .given .1 in
     h ∙ sym (after-refusal (twinRung s 0 0 (termsAt s) (terms s) ∷ []) (idleRung s ∷ []) _ (sym e ∙ h))
 
@@ -53,7 +53,7 @@ check-named-requires c κs = search needs
 returns-2 : tie.Need-returns-2
 returns-2 c =
     let s = c .before .before .before .before .before .before .before .args .s .now in
-    let e = rw (c .before .before .before .before .terms-at .ensures, c .before .before .before .before .before .term-count .ensures) at (c .before .before .before .check-twins .ensures) in
+    let e = rw (c .before .before .before .before .terms-at .ensures, c .before .before .before .before .before .term-count .ensures) at (c .before .before .before .check-unlike .ensures) in
     c .check-named .ensures ∙ sym (after-pass (twinRung s 0 0 (termsAt s) (terms s) ∷ []) (idleRung s ∷ []) (sym e ∙ c .before .enum-told .given .1))
 
 pub check-terms-spec : {M : Type 1} → statement M
@@ -63,7 +63,7 @@ check-terms-spec =
     term-count-requires
     cast-count
     terms-at-requires
-    check-twins-requires
+    check-unlike-requires
     enum-told
     enum-told-2
     returns

@@ -1,43 +1,29 @@
-use Rattle.opening.specs.Opening.{openRungs}
-use Rattle.trace.proofs.Layers.{layer-stops, layer-passes}
-use Rattle.trace.specs.Faults.{sizeRungs}
 use mathlib.Core.Path.{_≡_, refl, sym, ap, _∙_}
 use borrow.Author.Needs.{needs}
 use Rattle.trace.proofs.check_frame.Statement.{statement}
 use Rattle.trace.proofs.check_frame.Tie as tie
 use Rattle.trace.proofs.check_frame.Reads as reads
 use Rattle.trace.proofs.check_frame.Lts as lts
-use Rattle.opening.proofs.opened.Reads as opened-reads
-use Rattle.trace.proofs.check_size.Reads as check-size-reads
+use Rattle.opening.proofs.check_frame.Reads as check-frame-reads
+use Rattle.trace.proofs.counts_ok.Reads as counts-ok-reads
+use Rattle.trace.proofs.length_ok.Reads as length-ok-reads
 
--- src/lib.rt:180:9
-opened-requires : tie.Need-opened-requires
-opened-requires c κs = search needs
+-- src/lib.rt:174:43
+counts-ok-requires : tie.Need-counts-ok-requires
+counts-ok-requires c κs = search needs
 
-enum-told : tie.Need-enum-told
-enum-told c = search needs
+-- src/lib.rt:174:57
+length-ok-requires : tie.Need-length-ok-requires
+length-ok-requires c κs = search needs
 
--- src/lib.rt:182:9
-enum-told-2 : tie.Need-enum-told-2
-enum-told-2 c = search needs
+-- src/lib.rt:174:5
+check-frame-requires : tie.Need-check-frame-requires
+check-frame-requires c κs = search needs
 
--- src/lib.rt:182:9
+-- src/lib.rt:171:1
 returns : tie.Need-returns
-returns c =
-    let s = c .before .before .before .before .args .s .now in
-    layer-stops (openRungs 2 s) (sizeRungs s) (c .before .before .opened .ensures) (c .enum-told2 .given .1)
-
--- src/lib.rt:184:5
-check-size-requires : tie.Need-check-size-requires
-check-size-requires c κs = search needs
-
--- src/lib.rt:177:1
-returns-2 : tie.Need-returns-2
-returns-2 c =
-    let s = c .before .before .before .before .before .args .s .now in
-    layer-passes (openRungs 2 s) (sizeRungs s) (c .before .before .before .opened .ensures) (c .before .enum-told .given .1) (c .check-size .ensures)
+returns c = c .check-frame .ensures ∙ rw (c .before .before .counts-ok .ensures, c .before .length-ok .ensures)
 
 pub check-frame-spec : {M : Type 1} → statement M
 check-frame-spec =
-    tie.close
-    (tie.spec opened-requires enum-told enum-told-2 returns check-size-requires returns-2)
+    tie.close (tie.spec counts-ok-requires length-ok-requires check-frame-requires returns)

@@ -1,7 +1,7 @@
 use mathlib.Core.List.{[], _∷_}
-use Rattle.trace.proofs.Layers.{layer-stops, layer-passes}
+use Rattle.answers.proofs.Layers.{layer-stops, layer-passes}
 use Rattle.trace.specs.Faults.{startRung, supplyRung}
-use mathlib.Core.Path.{_≡_, refl, sym, ap, _∙_}
+use mathlib.Core.Path.{_∙_}
 use borrow.Author.Needs.{needs}
 use Rattle.trace.proofs.check_held.Statement.{statement}
 use Rattle.trace.proofs.check_held.Tie as tie

@@ -7,7 +7,7 @@ use borrow.Author.Tests.{lt-ltb, le-ltb}
 use Rattle.trace.specs.Faults.{indexRung}
 use Rattle.trace.specs.Layout.{indexOk}
 use native.Mathlib.Omega.{arith}
-use mathlib.Core.Path.{_≡_, refl, sym, ap, _∙_}
+use mathlib.Core.Path.{_≡_, refl, _∙_}
 use Rattle.trace.proofs.check_indexes.Statement.{statement}
 use Rattle.trace.proofs.check_indexes.Tie as tie
 use Rattle.trace.proofs.check_indexes.Reads as reads

@@ -1,15 +1,15 @@
 use borrow.Author.Needs.{needs}
 use mathlib.Core.List.{[], _∷_}
-use Rattle.trace.proofs.Layers.{layer-stops, layer-passes}
+use Rattle.answers.proofs.Layers.{layer-stops, layer-passes}
 use Rattle.trace.specs.Faults.{frameRungs, entryRungs, equalRung, restRungs}
-use mathlib.Core.Path.{_≡_, refl, sym, ap, _∙_}
+use mathlib.Core.Path.{_∙_}
 use Rattle.trace.proofs.check_trace.Statement.{statement}
 use Rattle.trace.proofs.check_trace.Tie as tie
 use Rattle.trace.proofs.check_trace.Reads as reads
 use Rattle.trace.proofs.check_trace.Lts as lts
 use Rattle.trace.proofs.check_entries.Reads as check-entries-reads
 use Rattle.trace.proofs.check_frame.Reads as check-frame-reads
-use Rattle.trace.proofs.check_unlike.Reads as check-unlike-reads
+use Rattle.filing.proofs.check_unlike.Reads as check-unlike-reads
 use Rattle.trace.proofs.value_count.Reads as value-count-reads
 
 -- src/lib.rt:267:9

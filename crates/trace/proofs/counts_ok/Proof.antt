@@ -1,6 +1,5 @@
 use Rattle.trace.specs.Layout.{countsOk}
 use borrow.Author.Tests.{le-leb, lt-leb}
-use mathlib.Core.Path.{_≡_, refl, sym, ap, _∙_}
 use borrow.Author.Needs.{needs}
 use Rattle.trace.proofs.counts_ok.Statement.{statement}
 use Rattle.trace.proofs.counts_ok.Tie as tie

@@ -1,5 +1,5 @@
 use Rattle.trace.specs.Layout.{index}
-use mathlib.Core.Path.{_≡_, refl, sym, ap, _∙_}
+use mathlib.Core.Path.{_∙_}
 use borrow.Author.Needs.{needs}
 use Rattle.trace.proofs.index_at.Statement.{statement}
 use Rattle.trace.proofs.index_at.Tie as tie

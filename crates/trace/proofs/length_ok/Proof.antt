@@ -1,5 +1,4 @@
 use Rattle.trace.specs.Layout.{lengthOk}
-use mathlib.Core.Path.{_≡_, refl, sym, ap, _∙_}
 use borrow.Author.Needs.{needs}
 use Rattle.trace.proofs.length_ok.Statement.{statement}
 use Rattle.trace.proofs.length_ok.Tie as tie

@@ -1,5 +1,4 @@
 use Rattle.base.specs.Bytes.{word}
-use mathlib.Core.Path.{_≡_, refl, sym, ap, _∙_}
 use borrow.Author.Needs.{needs}
 use Rattle.trace.proofs.short_at.Statement.{statement}
 use Rattle.trace.proofs.short_at.Tie as tie

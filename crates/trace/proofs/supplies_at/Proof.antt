@@ -1,4 +1,4 @@
-use Rattle.trace.proofs.Words.{slice-bytes, word-small}
+use Rattle.entries.proofs.Words.{slice-bytes, word-small}
 use native.Mathlib.Omega.{arith}
 use borrow.Author.Needs.{needs}
 use Rattle.trace.proofs.supplies_at.Statement.{statement}

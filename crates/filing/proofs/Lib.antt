@@ -1,0 +1,2 @@
+-- Laws of filing.
+mod Filing

@@ -1,0 +1,2 @@
+-- Laws of frames, for the proofs of the readers.
+pub mod Frames
