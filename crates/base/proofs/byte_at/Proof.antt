@@ -1,22 +1,18 @@
+-- `base::byte_at` meets its contract. Assumes nothing.
+use mathlib.Core.Path.{sym}
 use borrow.Author.Needs.{needs}
 use Rattle.base.specs.Bytes.{byte}
-use mathlib.Core.Path.{sym}
 use Rattle.base.proofs.Bounds.{byte-past}
 use Rattle.base.proofs.byte_at.Statement.{statement}
 use Rattle.base.proofs.byte_at.Tie as tie
-use Rattle.base.proofs.byte_at.Reads as reads
-use Rattle.base.proofs.byte_at.Lts as lts
 
--- src/lib.rt:18:16
 shared-slice-read-result : tie.Need-shared-slice-read-result
 shared-slice-read-result c = search needs
 
--- src/lib.rt:18:9
 returns : tie.Need-returns
 unfolding byte
 returns c = search needs
 
--- src/lib.rt:14:1
 returns-2 : tie.Need-returns-2
 returns-2 c = sym (byte-past _ _ (c .if1 .left))
 

@@ -1,49 +1,34 @@
-use mathlib.Core.Path.{sym}
-use Rattle.codes.proofs.RowLaws.{kind-none}
-use mathlib.Core.Path.{_≡_, ap, _∙_}
+-- `codes::code_known` meets its contract. Assumes nothing.
+use mathlib.Core.Path.{sym, _∙_}
 use borrow.Author.Needs.{needs}
+use Rattle.codes.proofs.RowLaws.{kind-none}
 use Rattle.codes.proofs.code_known.Statement.{statement}
 use Rattle.codes.proofs.code_known.Tie as tie
-use Rattle.codes.proofs.code_known.Reads as reads
-use Rattle.codes.proofs.code_known.Lts as lts
-use Rattle.codes.proofs.statement_known.Reads as statement-known-reads
-use Rattle.codes.proofs.step_known.Reads as step-known-reads
-use Rattle.codes.proofs.term_known.Reads as term-known-reads
-use Rattle.codes.proofs.value_known.Reads as value-known-reads
 
--- src/lib.rt:159:14
 term-known-requires : tie.Need-term-known-requires
 term-known-requires c κs = search needs
 
--- src/lib.rt:160:14
 step-known-requires : tie.Need-step-known-requires
 step-known-requires c κs = search needs
 
--- src/lib.rt:161:14
 statement-known-requires : tie.Need-statement-known-requires
 statement-known-requires c κs = search needs
 
--- src/lib.rt:162:14
 value-known-requires : tie.Need-value-known-requires
 value-known-requires c κs = search needs
 
--- src/lib.rt:155:1
 returns : tie.Need-returns
 returns c = c .term-known .ensures ∙ rw (c .before .match .keys1)
 
--- src/lib.rt:155:1
 returns-2 : tie.Need-returns-2
 returns-2 c = c .step-known .ensures ∙ rw (c .before .match .keys2)
 
--- src/lib.rt:155:1
 returns-3 : tie.Need-returns-3
 returns-3 c = c .statement-known .ensures ∙ rw (c .before .match .keys3)
 
--- src/lib.rt:155:1
 returns-4 : tie.Need-returns-4
 returns-4 c = c .value-known .ensures ∙ rw (c .before .match .keys4)
 
--- src/lib.rt:155:1
 returns-5 : tie.Need-returns-5
 returns-5 c = let r = c .match .rest in sym (kind-none _ _ _ (r .0 .0 .0 .1) (r .0 .0 .1) (r .0 .1) (r .1))
 

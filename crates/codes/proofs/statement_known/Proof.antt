@@ -1,23 +1,18 @@
-use Rattle.base.specs.Bytes.{byte}
-use Rattle.codes.specs.Rows.{known, rows, cell}
+-- `codes::statement_known` meets its contract. Assumes nothing.
 use borrow.Author.Tests.{lt-ltb, le-ltb}
 use borrow.Author.Needs.{needs}
+use Rattle.base.specs.Bytes.{byte}
+use Rattle.codes.specs.Rows.{known, rows}
 use Rattle.codes.proofs.statement_known.Statement.{statement}
 use Rattle.codes.proofs.statement_known.Tie as tie
-use Rattle.codes.proofs.statement_known.Reads as reads
-use Rattle.codes.proofs.statement_known.Lts as lts
-use Rattle.codes.proofs.since.Reads as since-reads
 
--- src/lib.rt:138:18
 since-requires : tie.Need-since-requires
 since-requires c κs = search needs
 
--- src/lib.rt:134:1
 returns : tie.Need-returns
 unfolding known rows byte
 returns c = simp (lt-ltb _ 9 (c .before .if1 .taken)) (c .since .ensures)
 
--- src/lib.rt:134:1
 returns-2 : tie.Need-returns-2
 unfolding known rows byte
 returns-2 c = simp (le-ltb _ 9 (c .if1 .left))

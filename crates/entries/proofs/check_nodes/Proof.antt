@@ -1,19 +1,15 @@
+-- `entries::check_nodes` meets its contract. Assumes nothing.
+use mathlib.Core.Path.{_≡_, refl, sym, _∙_}
+use Prim.Native.Nat.{_≤_, _-_}
+use native.Mathlib.Omega.{arith}
 use borrow.Author.Needs.{needs}
+use borrow.Author.Tests.{not-true, not-false}
 use Rattle.answers.proofs.Ladder.{rung-found, rung-clean}
 use Rattle.base.specs.Search.{first}
-use Prim.Native.Nat.{_≤_, _-_}
 use Rattle.base.proofs.Searched.{first-right}
-use borrow.Author.Tests.{not-true, not-false}
 use Rattle.entries.specs.Faults.{nodeOk, nodeRung}
-use native.Mathlib.Omega.{arith}
-use mathlib.Core.Path.{_≡_, refl, sym, ap, _∙_}
 use Rattle.entries.proofs.check_nodes.Statement.{statement}
 use Rattle.entries.proofs.check_nodes.Tie as tie
-use Rattle.entries.proofs.check_nodes.Reads as reads
-use Rattle.entries.proofs.check_nodes.Lts as lts
-use Rattle.answers.proofs.refuse.Reads as refuse-reads
-use Rattle.entries.proofs.node_ok.Reads as node-ok-reads
-use Rattle.entries.proofs.place_of.Reads as place-of-reads
 
 abbrev Inv-loop : tie.InvT-loop
 Inv-loop s kind file version base symbols count i₀ i = (i ≤ count) × (first (nodeOk s kind version base symbols) 0 count ≡ first (nodeOk s kind version base symbols) i count)
@@ -21,41 +17,32 @@ Inv-loop s kind file version base symbols count i₀ i = (i ≤ count) × (first
 abbrev μ-loop : tie.MeasureT-loop
 μ-loop s kind file version base symbols count i₀ i = count - i
 
--- src/lib.rt:107:5
 loop-holds : tie.Need-loop-holds Inv-loop μ-loop
 loop-holds c = (search needs, refl)
 
--- src/lib.rt:108:13
 node-ok-requires : tie.Need-node-ok-requires Inv-loop μ-loop
 node-ok-requires c κs = search needs
 
--- src/lib.rt:109:45
 place-of-requires : tie.Need-place-of-requires Inv-loop μ-loop
 place-of-requires c κs = search needs
 
--- src/lib.rt:109:13
 refuse-requires : tie.Need-refuse-requires Inv-loop μ-loop
 refuse-requires c κs = search needs
 
--- src/lib.rt:109:13
 returns : tie.Need-returns Inv-loop μ-loop
 returns c =
     let a = c .before .before .before .before .before .before .before .args in
     c .refuse .ensures ∙ rung-found (nodeRung (a .s .now) (a .kind) (a .file) (a .version) (a .base) (a .symbols) (a .count)) _ _ (c .before .before .before .before .before .loop .inv .1) (c .before .before .before .before .loop-test .taken) (sym (c .before .before .before .node-ok .ensures) ∙ not-true _ (c .before .before .if1 .taken)) (rw (c .before .place-of .ensures))
 
--- src/lib.rt:111:9
 add-i : tie.Need-add-i Inv-loop μ-loop
 add-i c = search needs
 
--- src/lib.rt:107:5
 loop-less : tie.Need-loop-less Inv-loop μ-loop
 loop-less c = search needs
 
--- src/lib.rt:107:5
 loop-again : tie.Need-loop-again Inv-loop μ-loop
 loop-again c = (omega arith, c .before .before .before .loop .inv .1 ∙ first-right _ _ _ (c .before .before .loop-test .taken) (sym (c .before .node-ok .ensures) ∙ not-false _ (c .if1 .left)))
 
--- src/lib.rt:95:1
 returns-2 : tie.Need-returns-2 Inv-loop μ-loop
 returns-2 c =
     let a = c .before .before .before .args in

@@ -1,51 +1,37 @@
+-- `entries::field_at` meets its contract. Assumes nothing.
+use mathlib.Core.Path.{_∙_}
+use native.Mathlib.Omega.{arith}
+use borrow.Author.Needs.{needs}
 use Rattle.codes.proofs.RowLaws.{product-small}
 use Rattle.entries.proofs.Places.{place-small}
 use Rattle.entries.specs.Fields.{field}
-use native.Mathlib.Omega.{arith}
-use mathlib.Core.Path.{_≡_, refl, sym, ap, _∙_}
-use borrow.Author.Needs.{needs}
 use Rattle.entries.proofs.field_at.Statement.{statement}
 use Rattle.entries.proofs.field_at.Tie as tie
-use Rattle.entries.proofs.field_at.Reads as reads
-use Rattle.entries.proofs.field_at.Lts as lts
-use Rattle.base.proofs.wide.Reads as wide-reads
-use Rattle.codes.proofs.field_bytes.Reads as field-bytes-reads
-use Rattle.entries.proofs.number_at.Reads as number-at-reads
-use Rattle.entries.proofs.place_of.Reads as place-of-reads
 
--- src/lib.rt:38:9
 field-bytes-requires : tie.Need-field-bytes-requires
 field-bytes-requires c κs = search needs
 
--- src/lib.rt:39:14
 place-of-requires : tie.Need-place-of-requires
 place-of-requires c κs = search needs
 
--- src/lib.rt:39:14
 add-at : tie.Need-add-at
 add-at c = omega (arith, c .place-of .ensures, place-small (c .before .before .before .args .kind) (c .before .before .before .args .base) (c .before .before .before .args .i) (search needs) (search needs))
 
--- src/lib.rt:39:44
 wide-requires : tie.Need-wide-requires
 wide-requires c κs = search needs
 
--- src/lib.rt:39:60
 wide-requires-2 : tie.Need-wide-requires-2
 wide-requires-2 c κs = search needs
 
--- src/lib.rt:39:44
 mul-at : tie.Need-mul-at
 mul-at c = omega (arith, product-small (c .before .wide .result) (c .wide2 .result) (search needs) (search needs))
 
--- src/lib.rt:39:14
 add-at-2 : tie.Need-add-at-2
 add-at-2 c = omega (arith, c .before .before .place-of .ensures, place-small (c .before .before .before .before .before .args .kind) (c .before .before .before .before .before .args .base) (c .before .before .before .before .before .args .i) (search needs) (search needs), product-small (c .before .wide .result) (c .wide2 .result) (search needs) (search needs))
 
--- src/lib.rt:40:5
 number-at-requires : tie.Need-number-at-requires
 number-at-requires c κs = search needs
 
--- src/lib.rt:35:1
 returns : tie.Need-returns
 unfolding field
 returns c =

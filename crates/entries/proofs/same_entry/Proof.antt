@@ -1,49 +1,36 @@
+-- `entries::same_entry` meets its contract. Assumes nothing.
 use borrow.Author.Tests.{eq-eqb, ne-eqb}
-use Rattle.entries.specs.Fields.{sameEntry}
-use mathlib.Core.Path.{_≡_, refl, sym, ap, _∙_}
 use borrow.Author.Needs.{needs}
+use Rattle.entries.specs.Fields.{sameEntry}
 use Rattle.entries.proofs.same_entry.Statement.{statement}
 use Rattle.entries.proofs.same_entry.Tie as tie
-use Rattle.entries.proofs.same_entry.Reads as reads
-use Rattle.entries.proofs.same_entry.Lts as lts
-use Rattle.entries.proofs.code_at.Reads as code-at-reads
-use Rattle.entries.proofs.field_at.Reads as field-at-reads
 
--- src/lib.rt:120:8
 code-at-requires : tie.Need-code-at-requires
 code-at-requires c κs = search needs
 
--- src/lib.rt:120:37
 code-at-requires-2 : tie.Need-code-at-requires-2
 code-at-requires-2 c κs = search needs
 
--- src/lib.rt:121:12
 field-at-requires : tie.Need-field-at-requires
 field-at-requires c κs = search needs
 
--- src/lib.rt:121:45
 field-at-requires-2 : tie.Need-field-at-requires-2
 field-at-requires-2 c κs = search needs
 
--- src/lib.rt:122:20
 field-at-requires-3 : tie.Need-field-at-requires-3
 field-at-requires-3 c κs = search needs
 
--- src/lib.rt:122:53
 field-at-requires-4 : tie.Need-field-at-requires-4
 field-at-requires-4 c κs = search needs
 
--- src/lib.rt:122:13
 returns : tie.Need-returns
 unfolding sameEntry
 returns c = rw (← c .before .before .before .before .before .before .before .code-at .ensures, ← c .before .before .before .before .before .before .code-at2 .ensures, ← c .before .before .before .before .field-at .ensures, ← c .before .before .before .field-at2 .ensures, ← c .before .field-at3 .ensures, ← c .field-at4 .ensures, eq-eqb _ _ (c .before .before .before .before .before .if1 .taken), eq-eqb _ _ (c .before .before .if2 .taken))
 
--- src/lib.rt:117:1
 returns-2 : tie.Need-returns-2
 unfolding sameEntry
 returns-2 c = rw (← c .before .before .before .before .before .code-at .ensures, ← c .before .before .before .before .code-at2 .ensures, ← c .before .before .field-at .ensures, ← c .before .field-at2 .ensures, eq-eqb _ _ (c .before .before .before .if1 .taken), ne-eqb _ _ (c .if2 .left))
 
--- src/lib.rt:117:1
 returns-3 : tie.Need-returns-3
 unfolding sameEntry
 returns-3 c = rw (← c .before .before .code-at .ensures, ← c .before .code-at2 .ensures, ne-eqb _ _ (c .if1 .left))

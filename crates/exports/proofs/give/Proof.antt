@@ -1,54 +1,41 @@
-use Rattle.exports.proofs.Laid.{given-short, given-long}
-use lib.ListN.{length-set}
+-- `exports::give` meets its contract. Assumes nothing.
 use native.Mathlib.Omega.{arith}
-use mathlib.Core.Path.{_≡_, refl, sym, ap, _∙_}
+use lib.ListN.{length-set}
 use borrow.Author.Needs.{needs}
+use Rattle.exports.proofs.Laid.{given-short, given-long}
 use Rattle.exports.proofs.give.Statement.{statement}
 use Rattle.exports.proofs.give.Tie as tie
-use Rattle.exports.proofs.give.Reads as reads
-use Rattle.exports.proofs.give.Lts as lts
 
--- src/lib.rt:17:9
 returns : tie.Need-returns
 returns c = given-short _ _ (c .if1 .taken)
 
--- src/lib.rt:19:5
 slice-write-answer : tie.Need-slice-write-answer
 slice-write-answer c = search needs
 
--- src/lib.rt:20:5
 slice-write-answer-2 : tie.Need-slice-write-answer-2
 slice-write-answer-2 c = simp length-set (omega arith)
 
--- src/lib.rt:21:5
 slice-write-answer-3 : tie.Need-slice-write-answer-3
 slice-write-answer-3 c = simp length-set (omega arith)
 
--- src/lib.rt:22:5
 slice-write-answer-4 : tie.Need-slice-write-answer-4
 slice-write-answer-4 c = simp length-set (omega arith)
 
--- src/lib.rt:23:5
 slice-write-answer-5 : tie.Need-slice-write-answer-5
 slice-write-answer-5 c = simp length-set (omega arith)
 
--- src/lib.rt:24:5
 slice-write-answer-6 : tie.Need-slice-write-answer-6
 slice-write-answer-6 c = simp length-set (omega arith)
 
--- src/lib.rt:25:5
 slice-write-answer-7 : tie.Need-slice-write-answer-7
 slice-write-answer-7 c = simp length-set (omega arith)
 
--- src/lib.rt:26:5
 slice-write-answer-8 : tie.Need-slice-write-answer-8
 slice-write-answer-8 c = simp length-set (omega arith)
 
--- src/lib.rt:13:1
 same-length : tie.Need-same-length
 same-length c = search needs
 
--- src/lib.rt:13:1
 returns-2 : tie.Need-returns-2
 returns-2 c = given-long _ _ _ _ _ _ _ (c .if1 .left)
 

@@ -1,25 +1,18 @@
-use Rattle.marks.proofs.PutLaws.{put-one, put-none}
-use mathlib.Core.Path.{_≡_, refl, sym, ap, _∙_}
+-- `marks::put` meets its contract. Assumes nothing.
 use borrow.Author.Needs.{needs}
+use Rattle.marks.proofs.PutLaws.{put-one, put-none}
 use Rattle.marks.proofs.put.Statement.{statement}
 use Rattle.marks.proofs.put.Tie as tie
-use Rattle.marks.proofs.put.Reads as reads
-use Rattle.marks.proofs.put.Lts as lts
-use Rattle.base.proofs.wide.Reads as wide-reads
 
--- src/lib.rt:13:15
 wide-requires : tie.Need-wide-requires
 wide-requires c κs = search needs
 
--- src/lib.rt:13:9
 element-write-marks : tie.Need-element-write-marks
 element-write-marks c = search needs
 
--- src/lib.rt:9:1
 returns : tie.Need-returns
 returns c = rw (c .wide .ensures) (put-one _ _ _ _ (c .before .if1 .taken))
 
--- src/lib.rt:9:1
 returns-2 : tie.Need-returns-2
 returns-2 c = put-none _ _ _ _ (c .if1 .left)
 

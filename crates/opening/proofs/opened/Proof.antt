@@ -1,40 +1,29 @@
-use Rattle.answers.proofs.Ladder.{whole-right, whole-wrong, least-none}
+-- `opening::opened` meets its contract. Assumes nothing.
+use mathlib.Core.Path.{sym, _∙_}
 use borrow.Author.Tests.{eq-eqb, ne-eqb, not-true, not-false}
-use mathlib.Core.Path.{_≡_, refl, sym, ap, _∙_}
 use borrow.Author.Needs.{needs}
+use Rattle.answers.proofs.Ladder.{whole-right, whole-wrong, least-none}
 use Rattle.opening.proofs.opened.Statement.{statement}
 use Rattle.opening.proofs.opened.Tie as tie
-use Rattle.opening.proofs.opened.Reads as reads
-use Rattle.opening.proofs.opened.Lts as lts
-use Rattle.answers.proofs.refuse.Reads as refuse-reads
-use Rattle.base.proofs.word_at.Reads as word-at-reads
-use Rattle.opening.proofs.is_marked.Reads as is-marked-reads
 
--- src/lib.rt:25:9
 is-marked-requires : tie.Need-is-marked-requires
 is-marked-requires c κs = search needs
 
--- src/lib.rt:26:9
 refuse-requires : tie.Need-refuse-requires
 refuse-requires c κs = search needs
 
--- src/lib.rt:26:9
 returns : tie.Need-returns
 returns c = c .refuse .ensures ∙ sym (whole-wrong 1 _ _ _ (sym (c .before .before .is-marked .ensures) ∙ not-true _ (c .before .if1 .taken)))
 
--- src/lib.rt:28:8
 word-at-requires : tie.Need-word-at-requires
 word-at-requires c κs = search needs
 
--- src/lib.rt:29:9
 returns-2 : tie.Need-returns-2
 returns-2 c = sym (whole-right 1 _ _ _ (sym (c .before .before .before .is-marked .ensures) ∙ not-false _ (c .before .before .if1 .left)) ∙ whole-right 2 _ _ _ (eq-eqb _ _ (sym (c .before .word-at .ensures) ∙ c .if2 .taken)) ∙ least-none)
 
--- src/lib.rt:31:5
 refuse-requires-2 : tie.Need-refuse-requires-2
 refuse-requires-2 c κs = search needs
 
--- src/lib.rt:22:1
 returns-3 : tie.Need-returns-3
 returns-3 c = c .refuse2 .ensures ∙ sym (whole-right 1 _ _ _ (sym (c .before .before .before .before .is-marked .ensures) ∙ not-false _ (c .before .before .before .if1 .left)) ∙ whole-wrong 2 _ _ _ (ne-eqb _ _ (rw (c .before .before .word-at .ensures) at (c .before .if2 .left))))
 

@@ -1,49 +1,38 @@
+-- `table::check_table` meets its contract. Assumes nothing.
+use mathlib.Core.Path.{sym, _∙_}
+use mathlib.Core.List.{_++_}
+use borrow.Author.Needs.{needs}
 use Rattle.answers.proofs.Ladder.{after-pass, after-refusal}
 use Rattle.table_binding.specs.Binding.{bindRungs}
 use Rattle.table_naming.specs.Naming.{termRungs}
 use Rattle.table_layout.specs.Faults.{frameRungs, entryRungs}
-use mathlib.Core.Path.{_≡_, refl, sym, ap, _∙_}
-use mathlib.Core.List.{[], _∷_, _++_}
-use borrow.Author.Needs.{needs}
 use Rattle.table.proofs.check_table.Statement.{statement}
 use Rattle.table.proofs.check_table.Tie as tie
-use Rattle.table.proofs.check_table.Reads as reads
-use Rattle.table.proofs.check_table.Lts as lts
-use Rattle.table_binding.proofs.check_binding.Reads as check-binding-reads
-use Rattle.table_layout.proofs.check_entries.Reads as check-entries-reads
-use Rattle.table_layout.proofs.check_frame.Reads as check-frame-reads
-use Rattle.table_naming.proofs.check_terms.Reads as check-terms-reads
 
--- src/lib.rt:24:9
 check-frame-requires : tie.Need-check-frame-requires
 check-frame-requires c κs = search needs
 
 enum-told : tie.Need-enum-told
 enum-told c = search needs
 
--- src/lib.rt:26:9
 enum-told-2 : tie.Need-enum-told-2
 enum-told-2 c = search needs
 
--- src/lib.rt:26:9
 returns : tie.Need-returns
 returns c =
     let s = c .before .before .before .before .args .s .now in
     let h = c .enum-told2 .given .1 in
     h ∙ sym (after-refusal (frameRungs s) (entryRungs s ++ (termRungs s ++ bindRungs s)) _ (sym (c .before .before .check-frame .ensures) ∙ h))
 
--- src/lib.rt:28:9
 check-entries-requires : tie.Need-check-entries-requires
 check-entries-requires c κs = search needs
 
 enum-told-3 : tie.Need-enum-told-3
 enum-told-3 c = search needs
 
--- src/lib.rt:30:9
 enum-told-4 : tie.Need-enum-told-4
 enum-told-4 c = search needs
 
--- src/lib.rt:30:9
 returns-2 : tie.Need-returns-2
 returns-2 c =
     let s = c .before .before .before .before .before .before .before .args .s .now in
@@ -52,18 +41,15 @@ returns-2 c =
     ∙ sym (after-pass (frameRungs s) (entryRungs s ++ (termRungs s ++ bindRungs s)) (sym (c .before .before .before .before .before .check-frame .ensures) ∙ c .before .before .before .enum-told .given .1)
     ∙ after-refusal (entryRungs s) (termRungs s ++ bindRungs s) _ (sym (c .before .before .check-entries .ensures) ∙ h))
 
--- src/lib.rt:32:9
 check-terms-requires : tie.Need-check-terms-requires
 check-terms-requires c κs = search needs
 
 enum-told-5 : tie.Need-enum-told-5
 enum-told-5 c = search needs
 
--- src/lib.rt:34:9
 enum-told-6 : tie.Need-enum-told-6
 enum-told-6 c = search needs
 
--- src/lib.rt:34:9
 returns-3 : tie.Need-returns-3
 returns-3 c =
     let s = c .before .before .before .before .before .before .before .before .before .before .args .s .now in
@@ -73,11 +59,9 @@ returns-3 c =
     ∙ after-pass (entryRungs s) (termRungs s ++ bindRungs s) (sym (c .before .before .before .before .before .check-entries .ensures) ∙ c .before .before .before .enum-told3 .given .1)
     ∙ after-refusal (termRungs s) (bindRungs s) _ (sym (c .before .before .check-terms .ensures) ∙ h))
 
--- src/lib.rt:36:5
 check-binding-requires : tie.Need-check-binding-requires
 check-binding-requires c κs = search needs
 
--- src/lib.rt:21:1
 returns-4 : tie.Need-returns-4
 returns-4 c =
     let s = c .before .before .before .before .before .before .before .before .before .before .before .args .s .now in

@@ -1,36 +1,26 @@
-use Rattle.table_binding.specs.Binding.{bindsNew}
-use mathlib.Core.Path.{_≡_, refl, sym, ap, _∙_}
+-- `table_binding::binds_new` meets its contract. Assumes nothing.
 use borrow.Author.Needs.{needs}
+use Rattle.table_binding.specs.Binding.{bindsNew}
 use Rattle.table_binding.proofs.binds_new.Statement.{statement}
 use Rattle.table_binding.proofs.binds_new.Tie as tie
-use Rattle.table_binding.proofs.binds_new.Reads as reads
-use Rattle.table_binding.proofs.binds_new.Lts as lts
-use Rattle.table_binding.proofs.binds_again.Reads as binds-again-reads
-use Rattle.table_binding.proofs.binds_twice.Reads as binds-twice-reads
 
--- src/lib.rt:71:8
 binds-again-requires : tie.Need-binds-again-requires
 binds-again-requires c κs = search needs
 
--- src/lib.rt:72:9
 returns : tie.Need-returns
 unfolding bindsNew
 returns c = rw (← c .before .binds-again .ensures, c .if1 .taken)
 
--- src/lib.rt:74:8
 binds-again-requires-2 : tie.Need-binds-again-requires-2
 binds-again-requires-2 c κs = search needs
 
--- src/lib.rt:75:9
 returns-2 : tie.Need-returns-2
 unfolding bindsNew
 returns-2 c = rw (← c .before .before .before .binds-again .ensures, c .before .before .if1 .left, ← c .before .binds-again2 .ensures, c .if2 .taken)
 
--- src/lib.rt:77:6
 binds-twice-requires : tie.Need-binds-twice-requires
 binds-twice-requires c κs = search needs
 
--- src/lib.rt:67:1
 returns-3 : tie.Need-returns-3
 unfolding bindsNew
 returns-3 c = rw (← c .before .before .before .before .binds-again .ensures, c .before .before .before .if1 .left, ← c .before .before .binds-again2 .ensures, c .before .if2 .left, ← c .binds-twice .ensures)

@@ -1,45 +1,32 @@
+-- `table_binding::field_in_scope` meets its contract. Assumes nothing.
 use native.Mathlib.Omega.{arith}
 use borrow.Author.Tests.{eq-eqb, ne-eqb, le-leb}
+use borrow.Author.Needs.{needs}
 use Rattle.table_binding.proofs.PassLaws.{latest-past}
 use Rattle.table_binding.specs.Binding.{fieldInScope}
-use mathlib.Core.Path.{_≡_, refl, sym, ap, _∙_}
-use borrow.Author.Needs.{needs}
 use Rattle.table_binding.proofs.field_in_scope.Statement.{statement}
 use Rattle.table_binding.proofs.field_in_scope.Tie as tie
-use Rattle.table_binding.proofs.field_in_scope.Reads as reads
-use Rattle.table_binding.proofs.field_in_scope.Lts as lts
-use Rattle.marks.proofs.get.Reads as get-reads
-use Rattle.table_layout.proofs.step_field.Reads as step-field-reads
-use Rattle.table_layout.proofs.step_role.Reads as step-role-reads
-use Rattle.table_layout.proofs.term_count.Reads as term-count-reads
 
--- src/lib.rt:145:8
 step-role-requires : tie.Need-step-role-requires
 step-role-requires c κs = search needs
 
--- src/lib.rt:146:13
 step-field-requires : tie.Need-step-field-requires
 step-field-requires c κs = search needs
 
--- src/lib.rt:147:16
 term-count-requires : tie.Need-term-count-requires
 term-count-requires c κs = search needs
 
--- src/lib.rt:148:20
 get-requires : tie.Need-get-requires
 get-requires c κs = search needs
 
--- src/lib.rt:148:13
 returns : tie.Need-returns
 unfolding fieldInScope
 returns c = rw (← c .before .before .before .before .before .step-role .ensures, eq-eqb _ _ (c .before .before .before .before .if1 .taken), ← c .before .before .before .step-field .ensures, ← c .before .before .before .before .before .before .before .pre .at (c .before .before .before .step-field .result) (rw (c .before .before .term-count .ensures) at (c .before .if2 .taken)), ← c .get .ensures)
 
--- src/lib.rt:141:1
 returns-2 : tie.Need-returns-2
 unfolding fieldInScope
 returns-2 c = rw (← c .before .before .before .before .step-role .ensures, eq-eqb _ _ (c .before .before .before .if1 .taken), ← c .before .before .step-field .ensures, latest-past (c .before .before .before .before .before .before .args .s .now) _ (c .before .before .step-field .result) (rw (c .before .term-count .ensures) at (c .if2 .left)), le-leb 0 (c .before .before .before .before .before .before .args .k) (omega arith))
 
--- src/lib.rt:141:1
 returns-3 : tie.Need-returns-3
 unfolding fieldInScope
 returns-3 c = rw (← c .before .step-role .ensures, ne-eqb _ _ (c .if1 .left))

@@ -1,48 +1,35 @@
+-- `table_binding::field_latest` meets its contract. Assumes nothing.
 use borrow.Author.Tests.{eq-eqb, ne-eqb}
-use Rattle.table_binding.proofs.PassLaws.{latest-past}
-use Rattle.table_binding.specs.Binding.{fieldLatest, latest}
-use mathlib.Core.Path.{_≡_, refl, sym, ap, _∙_}
 use borrow.Author.Needs.{needs}
+use Rattle.table_binding.proofs.PassLaws.{latest-past}
+use Rattle.table_binding.specs.Binding.{fieldLatest}
 use Rattle.table_binding.proofs.field_latest.Statement.{statement}
 use Rattle.table_binding.proofs.field_latest.Tie as tie
-use Rattle.table_binding.proofs.field_latest.Reads as reads
-use Rattle.table_binding.proofs.field_latest.Lts as lts
-use Rattle.marks.proofs.get.Reads as get-reads
-use Rattle.table_layout.proofs.term_field.Reads as term-field-reads
-use Rattle.table_layout.proofs.term_role.Reads as term-role-reads
 
--- src/lib.rt:112:9
 term-role-requires : tie.Need-term-role-requires
 term-role-requires c κs = search needs
 
--- src/lib.rt:113:9
 term-field-requires : tie.Need-term-field-requires
 term-field-requires c κs = search needs
 
--- src/lib.rt:115:9
 get-requires : tie.Need-get-requires
 get-requires c κs = search needs
 
--- src/lib.rt:115:9
 returns : tie.Need-returns
 unfolding fieldLatest
 returns c = rw (← c .before .before .before .term-role .ensures, eq-eqb _ _ (c .before .if1 .taken), ← c .before .before .term-field .ensures, ← c .before .before .before .before .before .pre .0 .at (c .before .before .term-field .result) (search needs), ← c .get .ensures)
 
--- src/lib.rt:119:13
 get-requires-2 : tie.Need-get-requires-2
 get-requires-2 c κs = search needs
 
--- src/lib.rt:119:13
 returns-2 : tie.Need-returns-2
 unfolding fieldLatest
 returns-2 c = rw (← c .before .before .before .before .before .term-role .ensures, ne-eqb _ _ (c .before .before .before .if1 .left), eq-eqb _ _ (c .before .before .if2 .taken), ← c .before .before .before .before .term-field .ensures, ← c .before .before .before .before .before .before .before .pre .1 .at (c .before .before .before .before .term-field .result) (c .before .if3 .taken), ← c .get2 .ensures)
 
--- src/lib.rt:108:1
 returns-3 : tie.Need-returns-3
 unfolding fieldLatest
 returns-3 c = rw (← c .before .before .before .before .term-role .ensures, ne-eqb _ _ (c .before .before .if1 .left), eq-eqb _ _ (c .before .if2 .taken), ← c .before .before .before .term-field .ensures, latest-past (c .before .before .before .before .before .before .args .s .now) (c .before .before .before .before .before .before .args .i) (c .before .before .before .term-field .result) (c .if3 .left))
 
--- src/lib.rt:108:1
 returns-4 : tie.Need-returns-4
 unfolding fieldLatest
 returns-4 c = rw (← c .before .before .before .term-role .ensures, ne-eqb _ _ (c .before .if1 .left), ne-eqb _ _ (c .if2 .left))

@@ -1,57 +1,45 @@
-use Rattle.table_layout.specs.Faults.{symbolRung, termRung, stepRung}
-use Rattle.answers.proofs.Ladder.{after-pass, after-refusal}
-use mathlib.Core.Path.{_≡_, refl, sym, ap, _∙_}
+-- `table_layout::check_entries` meets its contract. Assumes nothing.
+use mathlib.Core.Path.{sym, _∙_}
 use mathlib.Core.List.{[], _∷_}
 use borrow.Author.Needs.{needs}
+use Rattle.table_layout.specs.Faults.{symbolRung, termRung, stepRung}
+use Rattle.answers.proofs.Ladder.{after-pass, after-refusal}
 use Rattle.table_layout.proofs.check_entries.Statement.{statement}
 use Rattle.table_layout.proofs.check_entries.Tie as tie
-use Rattle.table_layout.proofs.check_entries.Reads as reads
-use Rattle.table_layout.proofs.check_entries.Lts as lts
-use Rattle.table_layout.proofs.check_steps.Reads as check-steps-reads
-use Rattle.table_layout.proofs.check_symbols.Reads as check-symbols-reads
-use Rattle.table_layout.proofs.check_terms.Reads as check-terms-reads
 
--- src/lib.rt:181:9
 check-symbols-requires : tie.Need-check-symbols-requires
 check-symbols-requires c κs = search needs
 
 enum-told : tie.Need-enum-told
 enum-told c = search needs
 
--- src/lib.rt:183:9
 enum-told-2 : tie.Need-enum-told-2
 enum-told-2 c = search needs
 
--- src/lib.rt:183:9
 returns : tie.Need-returns
 returns c =
     let s = c .before .before .before .before .args .s .now in
     let h = c .enum-told2 .given .1 in
     h ∙ sym (after-refusal (symbolRung s ∷ []) (termRung s ∷ stepRung s ∷ []) _ (sym (c .before .before .check-symbols .ensures) ∙ h))
 
--- src/lib.rt:185:9
 check-terms-requires : tie.Need-check-terms-requires
 check-terms-requires c κs = search needs
 
 enum-told-3 : tie.Need-enum-told-3
 enum-told-3 c = search needs
 
--- src/lib.rt:187:9
 enum-told-4 : tie.Need-enum-told-4
 enum-told-4 c = search needs
 
--- src/lib.rt:187:9
 returns-2 : tie.Need-returns-2
 returns-2 c =
     let s = c .before .before .before .before .before .before .before .args .s .now in
     let h = c .enum-told4 .given .1 in
     h ∙ sym (after-pass (symbolRung s ∷ []) (termRung s ∷ stepRung s ∷ []) (sym (c .before .before .before .before .before .check-symbols .ensures) ∙ c .before .before .before .enum-told .given .1) ∙ after-refusal (termRung s ∷ []) (stepRung s ∷ []) _ (sym (c .before .before .check-terms .ensures) ∙ h))
 
--- src/lib.rt:189:5
 check-steps-requires : tie.Need-check-steps-requires
 check-steps-requires c κs = search needs
 
--- src/lib.rt:178:1
 returns-3 : tie.Need-returns-3
 returns-3 c =
     let s = c .before .before .before .before .before .before .before .before .args .s .now in

@@ -1,26 +1,18 @@
-use mathlib.Core.Path.{_≡_, refl, sym, ap, _∙_}
+-- `table_layout::check_frame` meets its contract. Assumes nothing.
+use mathlib.Core.Path.{_∙_}
 use borrow.Author.Needs.{needs}
 use Rattle.table_layout.proofs.check_frame.Statement.{statement}
 use Rattle.table_layout.proofs.check_frame.Tie as tie
-use Rattle.table_layout.proofs.check_frame.Reads as reads
-use Rattle.table_layout.proofs.check_frame.Lts as lts
-use Rattle.opening.proofs.check_frame.Reads as check-frame-reads
-use Rattle.table_layout.proofs.counts_ok.Reads as counts-ok-reads
-use Rattle.table_layout.proofs.length_ok.Reads as length-ok-reads
 
--- src/lib.rt:100:43
 counts-ok-requires : tie.Need-counts-ok-requires
 counts-ok-requires c κs = search needs
 
--- src/lib.rt:100:57
 length-ok-requires : tie.Need-length-ok-requires
 length-ok-requires c κs = search needs
 
--- src/lib.rt:100:5
 check-frame-requires : tie.Need-check-frame-requires
 check-frame-requires c κs = search needs
 
--- src/lib.rt:97:1
 returns : tie.Need-returns
 returns c = c .check-frame .ensures ∙ rw (c .before .before .counts-ok .ensures, c .before .length-ok .ensures)
 

@@ -1,46 +1,33 @@
-use Rattle.table_layout.specs.Layout.{sortOk}
+-- `table_layout::sort_ok` meets its contract. Assumes nothing.
 use borrow.Author.Tests.{eq-eqb, ne-eqb}
-use mathlib.Core.Path.{_≡_, refl, sym, ap, _∙_}
 use borrow.Author.Needs.{needs}
+use Rattle.table_layout.specs.Layout.{sortOk}
 use Rattle.table_layout.proofs.sort_ok.Statement.{statement}
 use Rattle.table_layout.proofs.sort_ok.Tie as tie
-use Rattle.table_layout.proofs.sort_ok.Reads as reads
-use Rattle.table_layout.proofs.sort_ok.Lts as lts
-use Rattle.table_layout.proofs.sort_at.Reads as sort-at-reads
-use Rattle.table_layout.proofs.step_field.Reads as step-field-reads
-use Rattle.table_layout.proofs.step_role.Reads as step-role-reads
 
--- src/lib.rt:126:9
 step-role-requires : tie.Need-step-role-requires
 step-role-requires c κs = search needs
 
--- src/lib.rt:128:27
 step-field-requires : tie.Need-step-field-requires
 step-field-requires c κs = search needs
 
--- src/lib.rt:128:16
 sort-at-requires : tie.Need-sort-at-requires
 sort-at-requires c κs = search needs
 
--- src/lib.rt:128:9
 returns : tie.Need-returns
 unfolding sortOk
 returns c = rw (← c .before .before .before .step-role .ensures, eq-eqb _ _ (c .before .before .if1 .taken), ← c .before .step-field .ensures, ← c .sort-at .ensures)
 
--- src/lib.rt:131:27
 step-field-requires-2 : tie.Need-step-field-requires-2
 step-field-requires-2 c κs = search needs
 
--- src/lib.rt:131:16
 sort-at-requires-2 : tie.Need-sort-at-requires-2
 sort-at-requires-2 c κs = search needs
 
--- src/lib.rt:131:9
 returns-2 : tie.Need-returns-2
 unfolding sortOk
 returns-2 c = rw (← c .before .before .before .before .step-role .ensures, ne-eqb _ _ (c .before .before .before .if1 .left), eq-eqb _ _ (c .before .before .if2 .taken), ← c .before .step-field2 .ensures, ← c .sort-at2 .ensures)
 
--- src/lib.rt:123:1
 returns-3 : tie.Need-returns-3
 unfolding sortOk
 returns-3 c = rw (← c .before .before .step-role .ensures, ne-eqb _ _ (c .before .if1 .left), ne-eqb _ _ (c .if2 .left))

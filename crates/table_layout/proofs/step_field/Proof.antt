@@ -1,53 +1,39 @@
+-- `table_layout::step_field` meets its contract. Assumes nothing.
+use mathlib.Core.Path.{sym, ap, _∙_}
+use native.Mathlib.Omega.{arith}
+use borrow.Author.Needs.{needs}
 use Rattle.table_layout.proofs.FieldLaws.{step-field-byte}
 use Rattle.base.specs.Bytes.{byte}
-use native.Mathlib.Omega.{arith}
-use mathlib.Core.Path.{_≡_, refl, sym, ap, _∙_}
-use borrow.Author.Needs.{needs}
 use Rattle.table_layout.proofs.step_field.Statement.{statement}
 use Rattle.table_layout.proofs.step_field.Tie as tie
-use Rattle.table_layout.proofs.step_field.Reads as reads
-use Rattle.table_layout.proofs.step_field.Lts as lts
-use Rattle.base.proofs.byte_at.Reads as byte-at-reads
-use Rattle.base.proofs.wide.Reads as wide-reads
-use Rattle.table_layout.proofs.steps_at.Reads as steps-at-reads
 
--- src/lib.rt:70:22
 steps-at-requires : tie.Need-steps-at-requires
 steps-at-requires c κs = search needs
 
--- src/lib.rt:70:22
 cast-byte-at : tie.Need-cast-byte-at
 cast-byte-at c = search needs
 
--- src/lib.rt:70:45
 wide-requires : tie.Need-wide-requires
 wide-requires c κs = search needs
 
--- src/lib.rt:70:45
 mul-byte-at : tie.Need-mul-byte-at
 mul-byte-at c = search needs
 
--- src/lib.rt:70:22
 add-byte-at : tie.Need-add-byte-at
 add-byte-at c = search needs
 
--- src/lib.rt:70:22
 add-byte-at-2 : tie.Need-add-byte-at-2
 add-byte-at-2 c = search needs
 
--- src/lib.rt:70:69
 wide-requires-2 : tie.Need-wide-requires-2
 wide-requires-2 c κs = search needs
 
--- src/lib.rt:70:22
 add-byte-at-3 : tie.Need-add-byte-at-3
 add-byte-at-3 c = search needs
 
--- src/lib.rt:70:5
 byte-at-requires : tie.Need-byte-at-requires
 byte-at-requires c κs = search needs
 
--- src/lib.rt:67:1
 returns : tie.Need-returns
 returns c = c .byte-at .ensures ∙ ap (byte (c .before .before .before .before .before .args .s .now)) (omega arith) ∙ sym (step-field-byte _ _ _ _)
 
