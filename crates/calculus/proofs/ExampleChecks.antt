@@ -10,7 +10,7 @@ use Rattle.calculus.specs.Typing.{Checked, AnswerIs}
 use Rattle.calculus.specs.Inference.{infer}
 use Rattle.calculus.specs.Version1.{signature1, encryption}
 use Rattle.calculus.proofs.Version1Laws.{right1}
-use Rattle.calculus.proofs.Examples.{E1}
+use Rattle.calculus.specs.ExampleTables.{E1}
 
 all-in : {A : Type 0} {P : A → Type 0} {x : A} {l : List A} → All P l → In x l → P x
 all-in (all-cons p q) here = p

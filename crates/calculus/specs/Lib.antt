@@ -6,3 +6,4 @@ pub mod Figure2
 pub mod Typing
 pub mod Inference
 pub mod Version1
+pub mod ExampleTables

@@ -1,0 +1,5 @@
+pub mod Rendering
+pub mod Judge
+pub mod Translation
+pub mod Lists
+pub mod Examples
