@@ -1,8 +1,7 @@
 -- `table::check_table` meets its contract. Assumes nothing.
-use mathlib.Core.Path.{sym, _∙_}
 use mathlib.Core.List.{_++_}
 use borrow.Author.Needs.{needs}
-use Rattle.answers.proofs.Ladder.{after-pass, after-refusal}
+use Rattle.answers.proofs.Layers.{layer-stops, layer-passes}
 use Rattle.table_binding.specs.Binding.{bindRungs}
 use Rattle.table_naming.specs.Naming.{termRungs}
 use Rattle.table_layout.specs.Faults.{frameRungs, entryRungs}
@@ -21,8 +20,7 @@ enum-told-2 c = search needs
 returns : tie.Need-returns
 returns c =
     let s = c .before .before .before .before .args .s .now in
-    let h = c .enum-told2 .given .1 in
-    h ∙ sym (after-refusal (frameRungs s) (entryRungs s ++ (termRungs s ++ bindRungs s)) _ (sym (c .before .before .check-frame .ensures) ∙ h))
+    layer-stops (frameRungs s) (entryRungs s ++ (termRungs s ++ bindRungs s)) (c .before .before .check-frame .ensures) (c .enum-told2 .given .1)
 
 check-entries-requires : tie.Need-check-entries-requires
 check-entries-requires c κs = search needs
@@ -36,10 +34,8 @@ enum-told-4 c = search needs
 returns-2 : tie.Need-returns-2
 returns-2 c =
     let s = c .before .before .before .before .before .before .before .args .s .now in
-    let h = c .enum-told4 .given .1 in
-    h
-    ∙ sym (after-pass (frameRungs s) (entryRungs s ++ (termRungs s ++ bindRungs s)) (sym (c .before .before .before .before .before .check-frame .ensures) ∙ c .before .before .before .enum-told .given .1)
-    ∙ after-refusal (entryRungs s) (termRungs s ++ bindRungs s) _ (sym (c .before .before .check-entries .ensures) ∙ h))
+    layer-passes (frameRungs s) (entryRungs s ++ (termRungs s ++ bindRungs s)) (c .before .before .before .before .before .check-frame .ensures) (c .before .before .before .enum-told .given .1)
+    (layer-stops (entryRungs s) (termRungs s ++ bindRungs s) (c .before .before .check-entries .ensures) (c .enum-told4 .given .1))
 
 check-terms-requires : tie.Need-check-terms-requires
 check-terms-requires c κs = search needs
@@ -53,11 +49,9 @@ enum-told-6 c = search needs
 returns-3 : tie.Need-returns-3
 returns-3 c =
     let s = c .before .before .before .before .before .before .before .before .before .before .args .s .now in
-    let h = c .enum-told6 .given .1 in
-    h
-    ∙ sym (after-pass (frameRungs s) (entryRungs s ++ (termRungs s ++ bindRungs s)) (sym (c .before .before .before .before .before .before .before .before .check-frame .ensures) ∙ c .before .before .before .before .before .before .enum-told .given .1)
-    ∙ after-pass (entryRungs s) (termRungs s ++ bindRungs s) (sym (c .before .before .before .before .before .check-entries .ensures) ∙ c .before .before .before .enum-told3 .given .1)
-    ∙ after-refusal (termRungs s) (bindRungs s) _ (sym (c .before .before .check-terms .ensures) ∙ h))
+    layer-passes (frameRungs s) (entryRungs s ++ (termRungs s ++ bindRungs s)) (c .before .before .before .before .before .before .before .before .check-frame .ensures) (c .before .before .before .before .before .before .enum-told .given .1)
+    (layer-passes (entryRungs s) (termRungs s ++ bindRungs s) (c .before .before .before .before .before .check-entries .ensures) (c .before .before .before .enum-told3 .given .1)
+    (layer-stops (termRungs s) (bindRungs s) (c .before .before .check-terms .ensures) (c .enum-told6 .given .1)))
 
 check-binding-requires : tie.Need-check-binding-requires
 check-binding-requires c κs = search needs
@@ -65,10 +59,9 @@ check-binding-requires c κs = search needs
 returns-4 : tie.Need-returns-4
 returns-4 c =
     let s = c .before .before .before .before .before .before .before .before .before .before .before .args .s .now in
-    c .check-binding .ensures
-    ∙ sym (after-pass (frameRungs s) (entryRungs s ++ (termRungs s ++ bindRungs s)) (sym (c .before .before .before .before .before .before .before .before .before .check-frame .ensures) ∙ c .before .before .before .before .before .before .before .enum-told .given .1)
-    ∙ after-pass (entryRungs s) (termRungs s ++ bindRungs s) (sym (c .before .before .before .before .before .before .check-entries .ensures) ∙ c .before .before .before .before .enum-told3 .given .1)
-    ∙ after-pass (termRungs s) (bindRungs s) (sym (c .before .before .before .check-terms .ensures) ∙ c .before .enum-told5 .given .1))
+    layer-passes (frameRungs s) (entryRungs s ++ (termRungs s ++ bindRungs s)) (c .before .before .before .before .before .before .before .before .before .check-frame .ensures) (c .before .before .before .before .before .before .before .enum-told .given .1)
+    (layer-passes (entryRungs s) (termRungs s ++ bindRungs s) (c .before .before .before .before .before .before .check-entries .ensures) (c .before .before .before .before .enum-told3 .given .1)
+    (layer-passes (termRungs s) (bindRungs s) (c .before .before .before .check-terms .ensures) (c .before .enum-told5 .given .1) (c .check-binding .ensures)))
 
 pub check-table-spec : {M : Type 1} → statement M
 check-table-spec =

@@ -1,8 +1,8 @@
 -- `table_binding::check_binding` meets its contract. Assumes nothing.
-use mathlib.Core.Path.{refl, sym, _∙_}
+use mathlib.Core.Path.{refl}
 use mathlib.Core.List.{[], _∷_}
 use borrow.Author.Needs.{needs}
-use Rattle.answers.proofs.Ladder.{after-pass, after-refusal}
+use Rattle.answers.proofs.Layers.{layer-stops, layer-passes}
 use Rattle.marks.specs.Put.{blank}
 use Rattle.table_binding.specs.Binding.{bindRung, scopeRung}
 use Rattle.table_binding.proofs.check_binding.Statement.{statement}
@@ -21,8 +21,7 @@ enum-told-2 c = search needs
 returns : tie.Need-returns
 returns c =
     let s = c .before .before .before .before .before .args .s .now in
-    let h = c .enum-told2 .given .1 in
-    h ∙ sym (after-refusal (bindRung s ∷ []) (scopeRung s ∷ []) _ (sym (c .before .before .bind-all .ensures .0) ∙ h))
+    layer-stops (bindRung s ∷ []) (scopeRung s ∷ []) (c .before .before .bind-all .ensures .0) (c .enum-told2 .given .1)
 
 all-latest-requires : tie.Need-all-latest-requires
 unfolding blank
@@ -34,7 +33,7 @@ check-scope-requires c κs = c .before .all-latest .ensures
 returns-2 : tie.Need-returns-2
 returns-2 c =
     let s = c .before .before .before .before .before .before .before .before .before .before .args .s .now in
-    c .check-scope .ensures ∙ sym (after-pass (bindRung s ∷ []) (scopeRung s ∷ []) (sym (c .before .before .before .before .before .before .before .bind-all .ensures .0) ∙ c .before .before .before .before .before .enum-told .given .1))
+    layer-passes (bindRung s ∷ []) (scopeRung s ∷ []) (c .before .before .before .before .before .before .before .bind-all .ensures .0) (c .before .before .before .before .before .enum-told .given .1) (c .check-scope .ensures)
 
 pub check-binding-spec : {M : Type 1} → statement M
 check-binding-spec =

@@ -1,9 +1,8 @@
 -- `table_layout::check_entries` meets its contract. Assumes nothing.
-use mathlib.Core.Path.{sym, _∙_}
 use mathlib.Core.List.{[], _∷_}
 use borrow.Author.Needs.{needs}
+use Rattle.answers.proofs.Layers.{layer-stops, layer-passes}
 use Rattle.table_layout.specs.Faults.{symbolRung, termRung, stepRung}
-use Rattle.answers.proofs.Ladder.{after-pass, after-refusal}
 use Rattle.table_layout.proofs.check_entries.Statement.{statement}
 use Rattle.table_layout.proofs.check_entries.Tie as tie
 
@@ -19,8 +18,7 @@ enum-told-2 c = search needs
 returns : tie.Need-returns
 returns c =
     let s = c .before .before .before .before .args .s .now in
-    let h = c .enum-told2 .given .1 in
-    h ∙ sym (after-refusal (symbolRung s ∷ []) (termRung s ∷ stepRung s ∷ []) _ (sym (c .before .before .check-symbols .ensures) ∙ h))
+    layer-stops (symbolRung s ∷ []) (termRung s ∷ stepRung s ∷ []) (c .before .before .check-symbols .ensures) (c .enum-told2 .given .1)
 
 check-terms-requires : tie.Need-check-terms-requires
 check-terms-requires c κs = search needs
@@ -34,8 +32,8 @@ enum-told-4 c = search needs
 returns-2 : tie.Need-returns-2
 returns-2 c =
     let s = c .before .before .before .before .before .before .before .args .s .now in
-    let h = c .enum-told4 .given .1 in
-    h ∙ sym (after-pass (symbolRung s ∷ []) (termRung s ∷ stepRung s ∷ []) (sym (c .before .before .before .before .before .check-symbols .ensures) ∙ c .before .before .before .enum-told .given .1) ∙ after-refusal (termRung s ∷ []) (stepRung s ∷ []) _ (sym (c .before .before .check-terms .ensures) ∙ h))
+    layer-passes (symbolRung s ∷ []) (termRung s ∷ stepRung s ∷ []) (c .before .before .before .before .before .check-symbols .ensures) (c .before .before .before .enum-told .given .1)
+    (layer-stops (termRung s ∷ []) (stepRung s ∷ []) (c .before .before .check-terms .ensures) (c .enum-told4 .given .1))
 
 check-steps-requires : tie.Need-check-steps-requires
 check-steps-requires c κs = search needs
@@ -43,7 +41,8 @@ check-steps-requires c κs = search needs
 returns-3 : tie.Need-returns-3
 returns-3 c =
     let s = c .before .before .before .before .before .before .before .before .args .s .now in
-    c .check-steps .ensures ∙ sym (after-pass (symbolRung s ∷ []) (termRung s ∷ stepRung s ∷ []) (sym (c .before .before .before .before .before .before .check-symbols .ensures) ∙ c .before .before .before .before .enum-told .given .1) ∙ after-pass (termRung s ∷ []) (stepRung s ∷ []) (sym (c .before .before .before .check-terms .ensures) ∙ c .before .enum-told3 .given .1))
+    layer-passes (symbolRung s ∷ []) (termRung s ∷ stepRung s ∷ []) (c .before .before .before .before .before .before .check-symbols .ensures) (c .before .before .before .before .enum-told .given .1)
+    (layer-passes (termRung s ∷ []) (stepRung s ∷ []) (c .before .before .before .check-terms .ensures) (c .before .enum-told3 .given .1) (c .check-steps .ensures))
 
 pub check-entries-spec : {M : Type 1} → statement M
 check-entries-spec =

@@ -1,8 +1,7 @@
 -- `table_naming::check_terms` meets its contract. Assumes nothing.
 use mathlib.Core.List.{[], _∷_}
-use mathlib.Core.Path.{sym, _∙_}
 use borrow.Author.Needs.{needs}
-use Rattle.answers.proofs.Ladder.{after-pass, after-refusal}
+use Rattle.answers.proofs.Layers.{layer-stops, layer-passes}
 use Rattle.table_layout.specs.Layout.{terms, termsAt}
 use Rattle.entries.specs.Faults.{twinRung}
 use Rattle.table_naming.specs.Naming.{idleRung}
@@ -30,9 +29,7 @@ enum-told-2 c = search needs
 returns : tie.Need-returns
 returns c =
     let s = c .before .before .before .before .before .before .args .s .now in
-    let e = rw (c .before .before .before .terms-at .ensures, c .before .before .before .before .term-count .ensures) at (c .before .before .check-unlike .ensures) in
-    let h = c .enum-told2 .given .1 in
-    h ∙ sym (after-refusal (twinRung s 0 0 (termsAt s) (terms s) ∷ []) (idleRung s ∷ []) _ (sym e ∙ h))
+    layer-stops (twinRung s 0 0 (termsAt s) (terms s) ∷ []) (idleRung s ∷ []) (rw (c .before .before .before .terms-at .ensures, c .before .before .before .before .term-count .ensures) at (c .before .before .check-unlike .ensures)) (c .enum-told2 .given .1)
 
 check-named-requires : tie.Need-check-named-requires
 check-named-requires c κs = search needs
@@ -40,8 +37,7 @@ check-named-requires c κs = search needs
 returns-2 : tie.Need-returns-2
 returns-2 c =
     let s = c .before .before .before .before .before .before .before .args .s .now in
-    let e = rw (c .before .before .before .before .terms-at .ensures, c .before .before .before .before .before .term-count .ensures) at (c .before .before .before .check-unlike .ensures) in
-    c .check-named .ensures ∙ sym (after-pass (twinRung s 0 0 (termsAt s) (terms s) ∷ []) (idleRung s ∷ []) (sym e ∙ c .before .enum-told .given .1))
+    layer-passes (twinRung s 0 0 (termsAt s) (terms s) ∷ []) (idleRung s ∷ []) (rw (c .before .before .before .before .terms-at .ensures, c .before .before .before .before .before .term-count .ensures) at (c .before .before .before .check-unlike .ensures)) (c .before .enum-told .given .1) (c .check-named .ensures)
 
 pub check-terms-spec : {M : Type 1} → statement M
 check-terms-spec =
