@@ -1,0 +1,5 @@
+pub mod Table
+pub mod Entries
+pub mod Meaning
+pub mod Right
+pub mod Values
