@@ -17,7 +17,8 @@ use Rattle.calculus.specs.Version1.{Seal1, signature1}
 use Rattle.calculus.proofs.TableLaws.{denoted-leaf, denoted-two}
 use Rattle.decoded.specs.Table.{termAt, tableOf}
 use Rattle.decoded.specs.Meaning.{Holds, itself, inside}
-use Rattle.decoded.proofs.Listed.{listed-length, listed-all-at}
+use Rattle.entries.proofs.Tiling.{listed-length}
+use Rattle.decoded.proofs.Listed.{listed-all-at}
 use Rattle.decoded.proofs.Passed.{Entered}
 use Rattle.decoded.proofs.Ranges.{parts-lower}
 use Rattle.decoded.proofs.Shapes.{TermNames, a-symbol, two-parts, left-part, right-part, term-names}

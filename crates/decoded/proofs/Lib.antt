@@ -22,4 +22,5 @@ pub mod Reach
 pub mod Passes
 -- the values of a trace, and examples
 pub mod ValueLaws
+pub mod TraceValues
 pub mod Examples

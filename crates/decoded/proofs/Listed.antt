@@ -1,10 +1,10 @@
--- Laws of lists by index: length, the thing at an index, and where a thing of the list stands. Assumes nothing.
+-- Laws of lists by index: the thing at an index, and where a thing of the list stands. Assumes nothing.
 use mathlib.Core.Path.{_≡_, refl, ap, _∙_}
 use mathlib.Core.Logic.{_⊎_, inl, inr}
 use mathlib.Core.List.{List, [], _∷_, _++_}
 use Prim.Native.Nat.{ℕ, zero, suc, _+_, _-_, _≤_, _<_}
 use native.Mathlib.Omega.{arith}
-use lib.ListN.{length, getD, drop}
+use lib.ListN.{getD, drop}
 use Rattle.calculus.specs.Scope.{In, here, there, All, all-nil, all-cons, NotIn, Distinct, di-cons}
 use Rattle.entries.specs.Tiling.{listed}
 
@@ -19,11 +19,6 @@ all-in (all-cons p q) here = p
 all-in (all-cons p q) (there i) = all-in q i
 
 module _ {A : Type 0} (f : ℕ → A) where
-  pub listed-length : (i n : ℕ) → length (listed f i n) ≡ n
-  unfolding listed
-  listed-length i zero = refl
-  listed-length i (suc n) = ap suc (listed-length (suc i) n)
-
   pub listed-at : (d : A) (i n k : ℕ) → k < n → getD (listed f i n) k d ≡ f (i + k)
   unfolding listed
   listed-at d i zero k h = absurd (omega arith)
@@ -54,15 +49,6 @@ module _ {A : Type 0} (f : ℕ → A) where
           → (k : ℕ) × (i ≤ k) × (k < i + suc n) × (x ≡ f k)
       go (inl e) r = (i, omega arith, omega arith, e)
       go (inr q) r = let (k, l, u, e) = r q in (k, omega arith, omega arith, e)
-
-  -- a range in two parts
-  pub listed-add : (i n m : ℕ) → listed f i (n + m) ≡ listed f i n ++ listed f (i + n) m
-  unfolding listed
-  listed-add i zero m = let p : 0 + m ≡ m = omega arith in let q : i + 0 ≡ i = omega arith in rw (p, q)
-  listed-add i (suc n) m =
-      let p : suc n + m ≡ suc (n + m) = omega arith in
-      let q : i + suc n ≡ suc i + n = omega arith in
-      rw (p, q, ← listed-add (suc i) n m)
 
 -- ── Lists of symbols ──
 

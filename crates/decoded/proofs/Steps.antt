@@ -21,7 +21,8 @@ use Rattle.entries.specs.Tiling.{listed}
 use Rattle.decoded.specs.Table.{sortAt, stepAt, tableOf, stepBytes}
 use Rattle.decoded.specs.Meaning.{Uses, Binder, Binds}
 use Rattle.decoded.proofs.Tests.{clash}
-use Rattle.decoded.proofs.Listed.{in-cases, all-in, listed-length, listed-all-at, listed-drop, in-either, in-first, in-second}
+use Rattle.entries.proofs.Tiling.{listed-length}
+use Rattle.decoded.proofs.Listed.{in-cases, all-in, listed-all-at, listed-drop, in-either, in-first, in-second}
 use Rattle.decoded.proofs.Passed.{Entered}
 use Rattle.decoded.proofs.Shapes.{fiveBytes, five-same, step-role, step-written, step-uses, step-binds}
 

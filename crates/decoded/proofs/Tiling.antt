@@ -1,31 +1,12 @@
--- Stretches of a file: things of one width, written one after the other, and the whole file. Assumes nothing.
-use mathlib.Core.Path.{_≡_, refl, sym, ap}
-use mathlib.Core.List.{List, [], _∷_, _++_}
+-- Stretches of a file: things of one width, written one after the other. Assumes nothing.
+use mathlib.Core.Path.{_≡_, sym}
+use mathlib.Core.List.{List, _++_}
 use Prim.Native.Nat.{ℕ, zero, suc, _+_, _*_, _≤_, _<_}
 use native.Mathlib.Nat.{suc-mul, zero-mul}
 use native.Mathlib.Omega.{arith}
-use lib.ListN.{length}
 use Rattle.base.specs.Bytes.{byte}
 use Rattle.entries.specs.Tiling.{listed, joined, stretch}
-use Rattle.decoded.proofs.Listed.{listed-add}
-
--- a file from p on, where t is what stands there
-stretch-from : (s t : List ℕ) (p : ℕ) → ((i : ℕ) → byte s (p + i) ≡ byte t i) → stretch s p (length t) ≡ t
-unfolding listed byte
-stretch-from s [] p e = refl
-stretch-from s (x ∷ t) p e =
-    let h : byte s p ≡ x = at-zero (e 0) in
-    rw (h, stretch-from s t (suc p) λ i. at-suc i (e (suc i)))
-  where
-    at-zero : byte s (p + 0) ≡ x → byte s p ≡ x
-    at-zero q = let z : p + 0 ≡ p = omega arith in rw z at q
-
-    at-suc : (i : ℕ) → byte s (p + suc i) ≡ byte t i → byte s (suc p + i) ≡ byte t i
-    at-suc i q = let z : p + suc i ≡ suc p + i = omega arith in rw z at q
-
--- the whole file is a stretch of it
-pub stretch-whole : (s : List ℕ) → stretch s 0 (length s) ≡ s
-stretch-whole s = stretch-from s s 0 λ i. let z : 0 + i ≡ i = omega arith in ap (byte s) z
+use Rattle.entries.proofs.Tiling.{listed-add}
 
 -- stretches that follow each other
 pub stretches : (s : List ℕ) (p n q m : ℕ) → q ≡ p + n → stretch s p n ++ stretch s q m ≡ stretch s p (n + m)

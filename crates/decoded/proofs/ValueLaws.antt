@@ -18,7 +18,8 @@ use Rattle.calculus.specs.Version1.{Seal1, encryption, signature1}
 use Rattle.calculus.proofs.TableLaws.{equal-trees-equal-indexes}
 use Rattle.decoded.specs.Table.{twoCode}
 use Rattle.decoded.specs.Values.{valueOf, valueAt, valuesOf, valueNumbers}
-use Rattle.decoded.proofs.Listed.{listed-length, listed-all-at}
+use Rattle.entries.proofs.Tiling.{listed-length}
+use Rattle.decoded.proofs.Listed.{listed-all-at}
 use Rattle.decoded.proofs.Ranges.{entry-code, entry-field}
 use Rattle.decoded.proofs.Shapes.{three-same}
 

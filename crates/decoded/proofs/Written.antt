@@ -21,8 +21,8 @@ use Rattle.table_layout.proofs.FieldLaws.{term-field-byte, step-field-byte}
 use Rattle.table.specs.Faults.{tableRungs}
 use Rattle.entries.specs.Tiling.{listed, joined, stretch}
 use Rattle.decoded.specs.Table.{sortOf, sortAt, termAt, stepAt, tableOf, sortBytes, entryBytes, stepBytes, headerBytes, tableBytes}
-use Rattle.decoded.proofs.Listed.{listed-length}
-use Rattle.decoded.proofs.Tiling.{stretch-whole, stretches, joined-all}
+use Rattle.entries.proofs.Tiling.{listed-length, stretch-whole}
+use Rattle.decoded.proofs.Tiling.{stretches, joined-all}
 use Rattle.decoded.proofs.Passed.{Entered, entered, table-passed}
 use Rattle.decoded.proofs.Ranges.{sort-small}
 use Rattle.decoded.proofs.Shapes.{threeBytes, fiveBytes, term-written, step-written}
