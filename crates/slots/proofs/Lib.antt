@@ -1,0 +1,3 @@
+pub mod TermLaws
+pub mod SlotLaws
+pub mod PushLaws

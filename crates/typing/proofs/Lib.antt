@@ -1,0 +1,5 @@
+pub mod MarkLaws
+pub mod KeyLaws
+pub mod WantLaws
+pub mod StepLaws
+pub mod AnswerLaws
