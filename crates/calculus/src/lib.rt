@@ -1,4 +1,1 @@
-// This crate holds definitions and theorems; a crate needs one function.
-pub fn same(x: u64) -> u64 {
-    x
-}
+// Terms, steps and tables, Figure 2, and inference. Definitions and theorems only: there is no code.

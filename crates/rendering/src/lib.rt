@@ -1,4 +1,1 @@
-// This crate holds definitions and theorems; a crate needs one function.
-pub fn same(x: u64) -> u64 {
-    x
-}
+// Faithful renderings, the judge, and the translation. Definitions and theorems only: there is no code.

@@ -1,4 +1,1 @@
-// This crate holds definitions and theorems; a crate needs one function.
-pub fn same(x: u64) -> u64 {
-    x
-}
+// Runs of lists, the process of Table 2, and demand 3. Definitions and theorems only: there is no code.
