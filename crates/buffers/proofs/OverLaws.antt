@@ -7,7 +7,7 @@ use native.Mathlib.Numerals.{add-one}
 use lib.ListN.{length, take, drop, getD, set, length-append, length-drop, length-take}
 use lib.Seq.{take-all, length-take-le, take-suc, drop-cons, drop-drop, set-append-seam, take-append-seam, drop-append-seam, take-length, drop-length, append-snoc}
 use borrow.Rule.Slice.PartMut.{putMid, same-len-mid}
-use borrow.Author.Tests.{le-leb}
+use borrow.Author.Tests.{le-leb, lt-leb}
 use Rattle.buffers.specs.Over.{over, overIf}
 use Rattle.buffers.proofs.Parts.{part-from}
 
@@ -24,6 +24,10 @@ over-length w z h = simp (length-append, length-drop) (omega arith)
 -- what fits is written
 pub over-fits : (w z : List ℕ) → length w ≤ length z → overIf w z ≡ over w z
 over-fits w z h = rw (le-leb _ _ h)
+
+-- what does not is not
+pub over-short : (w z : List ℕ) → length z < length w → overIf w z ≡ z
+over-short w z h = rw (lt-leb _ _ h)
 
 -- one byte more
 pub over-more : (w z : List ℕ) (b : ℕ) → length w < length z → set (over w z) (length w) b ≡ over (w ++ (b ∷ [])) z

@@ -1,0 +1,2 @@
+pub mod Stepwise
+pub mod Registers
