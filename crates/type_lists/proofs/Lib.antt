@@ -1,0 +1,3 @@
+-- Laws of the types that are written one after the other.
+pub mod SlotTypes
+pub mod ListLaws

@@ -1,0 +1,2 @@
+-- Laws of the services that write a file.
+pub mod ServiceLaws

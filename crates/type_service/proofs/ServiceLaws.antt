@@ -1,0 +1,97 @@
+-- Stages of a service that writes a file, and that it has no second answer. Assumes nothing.
+use mathlib.Core.Path.{_≡_, refl, sym, ap, _∙_}
+use mathlib.Core.List.{List}
+use Prim.Native.Nat.{ℕ, _≤_, _<_}
+use native.Mathlib.Omega.{arith}
+use lib.ListN.{length}
+use Rattle.answers.specs.Ladder.{least}
+use Rattle.answers.specs.declared.Refusal.{Refusal}
+use Rattle.answers.specs.declared.Check.{Check}
+use Rattle.answers.specs.declared.Check.the-variants.{Pass, Refuse}
+use Rattle.table_layout.specs.Layout.{symbols}
+use Rattle.table.specs.Faults.{tableRungs}
+use Rattle.decoded.proofs.Passes.{table-passes}
+use Rattle.buffers.specs.Over.{over}
+use Rattle.calculus.specs.Figure2.{Env}
+use Rattle.calculus.specs.Typing.{widest, untyped, AnswerIs}
+use Rattle.calculus.specs.Version1.{signature1}
+use Rattle.calculus.proofs.Version1Laws.{one-answer1}
+use Rattle.decoded.specs.Table.{tableOf}
+use Rattle.slots.specs.Slots.{Holds}
+use Rattle.typing.specs.Answers.{TableInferred}
+use Rattle.typing.specs.declared.Typing.the-variants.{Widest, NoTyping}
+use Rattle.type_service.specs.Services.{refusal, IsWidest, TableRefused, faulty, no-typing, SlotsTyped, SlotsPut, Room, enough, short, Answered, table-refused, too-short, written}
+
+-- ── Numbers 1 to 10 ──
+
+pub slots-faulty : (s w o : List ℕ) (x : Refusal) (a : Check) → a ≡ least (tableRungs s) → a ≡ Refuse x → SlotsPut s w o a
+slots-faulty s w o x a e q = rw q (record { typed = λ l. faulty (sym e ∙ q) })
+
+module _ (s w o : List ℕ) (a : Check) (e : a ≡ least (tableRungs s)) (q : a ≡ Pass) where
+  pub slots-untyped : (k : ℕ) (r : Check) → TableInferred s w o (NoTyping k) → r ≡ Refuse (refusal 10 0 k) → SlotsPut s w o r
+  slots-untyped k r i j = rw j (record { typed = λ l. no-typing (sym e ∙ q) (i .answer l (sym e ∙ q)) })
+
+  pub slots-widest : TableInferred s w o Widest → SlotsPut s w o Pass
+  slots-widest i = record { typed = λ l. let (Γ, h, t) = i .answer l (sym e ∙ q) in (Γ, h, record { sound = sym e ∙ q; typing = t }) }
+
+-- a table that passes has at most 96 symbols
+pub few-symbols : (s : List ℕ) (Γ : Env signature1) → IsWidest s Γ → symbols s ≤ 96
+few-symbols s Γ t = table-passes s .0 (t .sound) .frame .few-symbols
+
+-- ── Number 15 ──
+
+pub room-short : (need room : ℕ) (r : Check) → room < need → r ≡ Refuse (refusal 15 3 need) → Room need room r
+room-short need room r l q = rw q (short l)
+
+-- ── The answer ──
+
+module _ (file : Env signature1 → List ℕ) (s z : List ℕ) where
+  -- a refusal of the table is passed on
+  pub passed-on : (o : List ℕ) (a : Check) (x : Refusal) → SlotsTyped s o a → a ≡ Refuse x → Answered file s z z a 0
+  passed-on o a x t q = rw q (table-refused (rw q at t))
+
+  module _ (Γ : Env signature1) (t : IsWidest s Γ) (need : ℕ) (n : need ≡ length (file Γ)) where
+    -- number 15 is
+    pub no-room : (b : Check) (x : Refusal) → Room need (length z) b → b ≡ Refuse x → Answered file s z z b 0
+    no-room b x (enough l) q = let y : _≡_ {A = ℕ} 0 1 = cc in absurd (omega arith)
+    no-room b x (short l) q = rw n (too-short t (rw n at l))
+
+    -- there is room
+    pub room-for : (b : Check) → Room need (length z) b → b ≡ Pass → length (file Γ) ≤ length z
+    room-for b (enough l) q = omega (arith, n)
+    room-for b (short l) q = let y : _≡_ {A = ℕ} 0 1 = cc in absurd (omega arith)
+
+    -- the file is written
+    pub all-written : (b : Check) (o : List ℕ) → Room need (length z) b → b ≡ Pass → o ≡ over (file Γ) z → Answered file s z o Pass need
+    all-written b o r q w = rw (w, n) (written t (room-for b r q))
+
+  -- ── No second answer ──
+
+  same-widest : (Γ Δ : Env signature1) → IsWidest s Γ → IsWidest s Δ → Γ ≡ Δ
+  same-widest Γ Δ t u = let e : widest Γ ≡ widest Δ = one-answer1 (tableOf s) (widest Γ) (widest Δ) (t .typing) (u .typing) in cc
+
+  not-both : (Γ : Env signature1) (x : Refusal) → IsWidest s Γ → TableRefused s x → ⊥
+  not-both Γ x t (faulty e) = let q = t .sound in let y : _≡_ {A = ℕ} 0 1 = cc in absurd (omega arith)
+  not-both Γ x t (no-typing {k = k} p u) =
+      let e : widest Γ ≡ untyped k = one-answer1 (tableOf s) (widest Γ) (untyped k) (t .typing) u in
+      let y : _≡_ {A = ℕ} 0 1 = cc in absurd (omega arith)
+
+  refused-once : (x y : Refusal) → TableRefused s x → TableRefused s y → x ≡ y
+  refused-once x y (faulty e) (faulty f) = cc
+  refused-once x y (faulty e) (no-typing p u) = let y : _≡_ {A = ℕ} 0 1 = cc in absurd (omega arith)
+  refused-once x y (no-typing p u) (faulty e) = let y : _≡_ {A = ℕ} 0 1 = cc in absurd (omega arith)
+  refused-once x y (no-typing {k = i} p u) (no-typing {k = k} q v) =
+      let e : untyped i ≡ untyped k = one-answer1 (tableOf s) (untyped i) (untyped k) u v in
+      let f : i ≡ k = cc in rw f refl
+
+  -- two answers, with two contents of the buffer, that both meet the promise are equal
+  pub answered-once : (o p : List ℕ) (a b : Check) (m n : ℕ) → Answered file s z o a m → Answered file s z p b n → (o ≡ p) × (a ≡ b) × (m ≡ n)
+  answered-once o p a b m n (table-refused r) (table-refused q) = (refl, ap Refuse (refused-once _ _ r q), refl)
+  answered-once o p a b m n (table-refused r) (too-short t l) = absurd (not-both _ _ t r)
+  answered-once o p a b m n (table-refused r) (written t l) = absurd (not-both _ _ t r)
+  answered-once o p a b m n (too-short t l) (table-refused r) = absurd (not-both _ _ t r)
+  answered-once o p a b m n (too-short t l) (too-short u k) = rw (same-widest _ _ t u) (refl, refl, refl)
+  answered-once o p a b m n (too-short {Γ = Γ} t l) (written {Γ = Δ} u k) = let e : Γ ≡ Δ = same-widest _ _ t u in absurd (omega (arith, rw e at l))
+  answered-once o p a b m n (written t l) (table-refused r) = absurd (not-both _ _ t r)
+  answered-once o p a b m n (written {Γ = Γ} t l) (too-short {Γ = Δ} u k) = let e : Γ ≡ Δ = same-widest _ _ t u in absurd (omega (arith, rw e at l))
+  answered-once o p a b m n (written t l) (written u k) = rw (same-widest _ _ t u) (refl, refl, refl)
