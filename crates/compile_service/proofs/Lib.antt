@@ -1,0 +1,2 @@
+-- Laws of the list that the compile service writes.
+pub mod FileLaws
