@@ -1,2 +1,3 @@
 -- Laws of giving an answer.
 mod Laid
+mod Serving

@@ -6,7 +6,10 @@ ghost use mathlib.Core.List.{[], _∷_};
 ghost use mathlib.Core.Path.{_≡_};
 ghost use lib.Dec.{leb};
 ghost use Rattle.base.specs.Pick.{pick};
+ghost use Rattle.type_service.specs.Services.{Answered, typesFile};
+ghost use Rattle.compile_service.specs.Files.{listFile};
 ghost use Rattle.exports.specs.Given.{Given};
+ghost use Rattle.exports.specs.Served.{Served};
 ghost use Rattle.exports.specs.Entries.{entriesOf, tableEntries, listEntries, traceEntries, typeOfEntries};
 
 // Gives the entries, where there is room for them.
@@ -83,6 +86,32 @@ pub extern "C" fn mirvashol_type_of(list: &[u8], symbol: usize, answer: &mut [u6
         return give(answer, 0, 0, 0, 0, 0, 0);
     };
     give(answer, 0, 0, 0, start as u64, count as u64, 0)
+}
+
+// The widest types of a table: a refusal, or the bytes written.
+#[no_mangle]
+pub extern "C" fn mirvashol_type(table: &[u8], out: &mut [u8], answer: &mut [u64]) -> u8
+    ensures { λ r. ⌜ Served (Answered (typesFile (now (table .entry))) (now (table .entry)) (now (out .entry))) (now (out .entry)) (now (out .exit)) (now (answer .entry)) (now (answer .exit)) r ⌝ }
+{
+    if answer.len() < 8 {
+        return 255;
+    }
+    let w = type_service::type_table(table, out);
+    let check = w.check;
+    give_check(answer, check, w.bytes as u64, 0, 0)
+}
+
+// The list of a table: a refusal, or the bytes written.
+#[no_mangle]
+pub extern "C" fn mirvashol_compile(table: &[u8], out: &mut [u8], answer: &mut [u64]) -> u8
+    ensures { λ r. ⌜ Served (Answered (listFile (now (table .entry))) (now (table .entry)) (now (out .entry))) (now (out .entry)) (now (out .exit)) (now (answer .entry)) (now (answer .exit)) r ⌝ }
+{
+    if answer.len() < 8 {
+        return 255;
+    }
+    let w = compile_service::compile(table, out);
+    let check = w.check;
+    give_check(answer, check, w.bytes as u64, 0, 0)
 }
 
 // A number of free symbols in 16 bits.

@@ -1,0 +1,17 @@
+-- How a service's answer is given. Assumes nothing.
+use mathlib.Core.Path.{_≡_, refl}
+use mathlib.Core.List.{List}
+use Prim.Native.Nat.{ℕ, _≤_, _<_}
+use native.Mathlib.Omega.{arith}
+use lib.ListN.{length}
+use Rattle.answers.specs.declared.Check.{Check}
+use Rattle.exports.specs.Given.{Given}
+use Rattle.exports.specs.Entries.{entriesOf}
+use Rattle.exports.specs.Served.{Served}
+
+module _ (A : List ℕ → Check → ℕ → Type 0) (z given : List ℕ) where
+  pub not-served : length given < 8 → Served A z z given given 255
+  not-served l = record { short = λ h. (refl, refl, refl); long = λ h. absurd (omega arith) }
+
+  pub served : (o gives : List ℕ) (a : Check) (n r : ℕ) → 8 ≤ length given → A o a n → Given given gives r (entriesOf a n 0 0) → Served A z o given gives r
+  served o gives a n r l p g = record { short = λ h. absurd (omega arith); long = λ h. (a, n, p, g) }

@@ -1,0 +1,14 @@
+-- How an exported service that writes to a lent buffer answers. Assumes nothing: these are definitions.
+use mathlib.Core.Path.{_≡_}
+use mathlib.Core.List.{List}
+use Prim.Native.Nat.{ℕ, _≤_, _<_}
+use lib.ListN.{length}
+use Rattle.answers.specs.declared.Check.{Check}
+use Rattle.exports.specs.Given.{Given}
+use Rattle.exports.specs.Entries.{entriesOf}
+
+-- A is the service's own promise, of what the buffer z has become, of the refusal, and of the bytes written; the eight entries say
+-- just that. An array of fewer than eight entries gets 255, and nothing is changed
+pub record Served (A : List ℕ → Check → ℕ → Type 0) (z o given gives : List ℕ) (r : ℕ) : Type 0 where
+  pub short : length given < 8 → (r ≡ 255) × (o ≡ z) × (gives ≡ given)
+  pub long : 8 ≤ length given → (a : Check) × (n : ℕ) × A o a n × Given given gives r (entriesOf a n 0 0)
