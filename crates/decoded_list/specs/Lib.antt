@@ -1,2 +1,4 @@
 pub mod Bytes
 pub mod Statements
+pub mod Decoded
+pub mod Form

@@ -1,0 +1,3 @@
+-- Laws of the lists that compiling gives.
+pub mod Rendered
+pub mod Compiled

@@ -1,0 +1,125 @@
+-- A list that passes 1 to 5, read and written again, is the same file: it is the file of a list. Assumes that its elements are bytes:
+-- a low byte of N above 255 would be read as more.
+use mathlib.Core.Path.{_≡_, refl, sym, ap, _∙_}
+use mathlib.Core.List.{List, [], _∷_, _++_, append-assoc, append-nil}
+use Prim.Native.Nat.{ℕ, zero, suc, _+_, _/_, _%_, _≤_, _<_}
+use native.Mathlib.Decide.{decLt}
+use native.Mathlib.Omega.{arith}
+use lib.Dec.{leb, eqb}
+use lib.ListN.{length, take, drop, length-drop}
+use lib.Seq.{length-take-le, drop-cons}
+use borrow.Author.Tests.{eqb-true}
+use Rattle.base.specs.Bytes.{byte, word}
+use Rattle.base.proofs.BothLaws.{both-left, both-right}
+use Rattle.codes.specs.Marks.{mark, header}
+use Rattle.answers.specs.Ladder.{least}
+use Rattle.answers.specs.declared.Check.the-variants.{Pass}
+use Rattle.entries.specs.Words.{Bytes}
+use Rattle.entries.specs.Tiling.{listed, joined, stretch, numberBytes}
+use Rattle.entries.proofs.Tiling.{listed-length, listed-add, word-bytes}
+use Rattle.opening.specs.Opening.{marked, version}
+use Rattle.types.specs.Types.{Message}
+use Rattle.types.specs.Version1.{T, bytes}
+use Rattle.list.specs.Layout.{symbols, statements, bodyAt, typeAt, statementsAt, given, statementOkAt, statementOk}
+use Rattle.list.specs.Faults.{listRungs}
+use Rattle.list.specs.Tiles.{joined as tiled, typeEntry, statementEntry, written}
+use Rattle.list.proofs.Framed.{Framed, Listed, list-passes, frame-passes, type-inside, header-there}
+use Rattle.list.proofs.SymbolTypes.{type-ok-exact}
+use Rattle.list.proofs.Written.{list-written}
+use Rattle.decoded_list.specs.Bytes.{statementBytes, typeBytes, headerBytes, listBytes}
+use Rattle.decoded_list.specs.Statements.{statementAt}
+use Rattle.decoded_list.specs.Decoded.{Decoded}
+use Rattle.decoded_list.proofs.Codes.{entry-in-order, entry-written}
+
+-- ── Things written one after the other ──
+
+-- two lists of things
+joined-append : {A : Type 0} (g : A → List ℕ) (k l : List A) → joined g (k ++ l) ≡ joined g k ++ joined g l
+unfolding joined
+joined-append g [] l = refl
+joined-append g (x ∷ k) l = rw (joined-append g k l) (sym (append-assoc (g x) (joined g k) (joined g l)))
+
+-- things as they are listed, and as they tile
+joined-tiled : {A : Type 0} (g : A → List ℕ) (f : ℕ → A) (h : ℕ → List ℕ) (n : ℕ) → ((k : ℕ) → k < n → g (f k) ≡ h k) → joined g (listed f 0 n) ≡ tiled h n
+unfolding tiled joined listed
+joined-tiled g f h zero e = refl
+joined-tiled g f h (suc n) e =
+    let z : suc n ≡ n + 1 = omega arith in
+    let y : 0 + n ≡ n = omega arith in
+    ap (λ m. joined g (listed f 0 m)) z
+    ∙ rw (listed-add f 0 n 1, joined-append g, joined-tiled g f h n (λ k l. e k (omega arith)), y, append-nil (g (f n)), e n (omega arith))
+
+-- ── The file ──
+
+-- the bytes of a file from a place on
+take-stretch : (s : List ℕ) (p n : ℕ) → p + n ≤ length s → take n (drop p s) ≡ stretch s p n
+unfolding listed byte
+take-stretch s p zero h = refl
+take-stretch s p (suc n) h = rw (drop-cons s p 0 (omega arith), take-stretch s (suc p) n (omega arith))
+
+-- the two bytes of version 1
+version-bytes : (s : List ℕ) → version s ≡ 1 → (byte s 3 ≡ 0) × (byte s 4 ≡ 1)
+unfolding word
+version-bytes s e = (omega arith, omega arith)
+
+-- the header, written again
+header-again : (s : List ℕ) → Bytes s → Framed s → headerBytes (symbols s) (statements s) ≡ take 8 s
+unfolding headerBytes marked listed
+header-again s h f =
+    let a = both-right (leb (header 1) (length s)) _ (f .mark-right) in
+    let b = both-right (eqb (byte s 0) (mark 1 0)) _ a in
+    let m0 : byte s 0 ≡ mark 1 0 = eqb-true _ _ (both-left (eqb (byte s 0) (mark 1 0)) _ a) in
+    let m1 : byte s 1 ≡ mark 1 1 = eqb-true _ _ (both-left (eqb (byte s 1) (mark 1 1)) _ b) in
+    let m2 : byte s 2 ≡ mark 1 2 = eqb-true _ _ (both-right (eqb (byte s 1) (mark 1 1)) _ b) in
+    let (v3, v4) = version-bytes s (f .version-one) in
+    let n : statements s / 256 ∷ statements s % 256 ∷ [] ≡ stretch s 6 2 = (unfold numberBytes in word-bytes s h 6) in
+    let w : headerBytes (symbols s) (statements s) ≡ stretch s 0 8 = rw (n, m0, m1, m2, v3, v4) in
+    w ∙ sym (take-stretch s 0 8 (header-there s (f .mark-right)))
+
+module _ (s : List ℕ) (free : ℕ) (l : Listed s free) where
+  -- statement i, written again
+  statement-again : (i : ℕ) → i < statements s → statementBytes (statementAt s i) ≡ statementEntry s i
+  unfolding statementAt statementEntry statementOk statementOkAt
+  statement-again i h =
+      let base = statementsAt s in
+      let n = given s free i in
+      entry-written s base i (symbols s) n (entry-in-order s (version s) base i (symbols s) n (l .statements-right i h))
+
+  -- a type, whose bytes are those of symbol i, if there is one
+  type-read : (i : ℕ) → (A : T) × (i < symbols s → bodyAt s (typeAt s i) ≡ bytes A)
+  type-read i = go (decLt i (symbols s))
+    where
+      go : Dec (i < symbols s) → (A : T) × (i < symbols s → bodyAt s (typeAt s i) ≡ bytes A)
+      go (yes h) = let (A, q) = type-ok-exact s i (l .framed) h .0 (l .types-right i h) in (A, λ h. q)
+      go (no n) = (Message, λ h. absurd (n h))
+
+  -- type i, written again
+  type-again : (i : ℕ) → i < symbols s → typeBytes (type-read i .0) ≡ typeEntry s i
+  unfolding typeBytes typeEntry
+  type-again i h =
+      let p = typeAt s i in
+      let k = type-inside s i (l .framed .length-exact) h in
+      let q = type-read i .1 h in
+      let c : length (bodyAt s p) ≡ byte s p = length-take-le (byte s p) (drop (p + 1) s) (rw length-drop (omega arith)) in
+      rw (← q, c)
+
+  -- all written again
+  listed-decoded : Bytes s → Decoded s
+  unfolding listBytes written
+  listed-decoded b =
+      let ts = listed (λ i. type-read i .0) 0 (symbols s) in
+      record {
+        types = ts;
+        is-file = list-written s (frame-passes s .1 (l .framed))
+            ∙ rw (
+              listed-length (λ i. type-read i .0) 0 (symbols s),
+              listed-length (statementAt s) 0 (statements s),
+              header-again s b (l .framed),
+              joined-tiled typeBytes (λ i. type-read i .0) (typeEntry s) (symbols s) type-again,
+              joined-tiled statementBytes (statementAt s) (statementEntry s) (statements s) statement-again,
+            );
+      }
+
+-- a list of bytes that passes 1 to 5 is the file of a list
+pub list-decoded : (s : List ℕ) (free : ℕ) → Bytes s → least (listRungs s free) ≡ Pass → Decoded s
+list-decoded s free b e = listed-decoded s free (list-passes s free .0 e) b
