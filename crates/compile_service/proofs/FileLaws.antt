@@ -28,7 +28,7 @@ use Rattle.type_service.specs.Services.{IsWidest}
 use Rattle.type_service.proofs.ServiceLaws.{few-symbols}
 use Rattle.compile_service.specs.Files.{listFile}
 
-header-length : (symbols statements : ℕ) → length (headerBytes symbols statements) ≡ 8
+pub header-length : (symbols statements : ℕ) → length (headerBytes symbols statements) ≡ 8
 unfolding headerBytes
 header-length symbols statements = refl
 
