@@ -9,24 +9,22 @@ use Rattle.answers.specs.declared.Refusal.{Refusal}
 use Rattle.answers.specs.declared.Check.{Check}
 use Rattle.answers.specs.declared.Check.the-variants.{Pass, Refuse}
 use Rattle.entries.specs.Tiling.{listed, joined}
-use Rattle.table_layout.specs.Layout.{symbols, steps}
+use Rattle.table_layout.specs.Layout.{symbols}
 use Rattle.types.specs.Version1.{T, bytes}
 use Rattle.buffers.specs.Over.{over}
 use Rattle.calculus.specs.Figure2.{Env}
 use Rattle.calculus.specs.Version1.{signature1}
-use Rattle.calculus.proofs.Version1Laws.{small-bytes1}
 use Rattle.rendering.specs.Rendering.{halves}
 use Rattle.rendering.specs.Translation.{translation}
 use Rattle.decoded.specs.Table.{tableOf}
-use Rattle.decoded.proofs.Checked.{table-checked}
 use Rattle.decoded.proofs.Passes.{table-passes}
-use Rattle.entries.proofs.Tiling.{listed-length}
 use Rattle.decoded_list.specs.Bytes.{headerBytes, typeBytes, typesBytes, statementsBytes}
 use Rattle.type_lists.specs.Lists.{typesTo}
 use Rattle.translate.proofs.Writing.{bytes-length}
 use Rattle.type_service.specs.Services.{IsWidest, TableRefused, Answered, table-refused, too-short, written}
 use Rattle.compile_service.specs.Files.{listFile}
 use Rattle.compile_service.proofs.FileLaws.{file-parts, few-statements, header-length}
+use Rattle.compile_service.proofs.ReadBack.{widest-short}
 use Rattle.lines.specs.Lines.{LinePut}
 use Rattle.compile.specs.Printed.{Text, a-list, a-line, Printed}
 
@@ -39,8 +37,6 @@ types-short Γ i (suc n) h = omega (arith, h i, types-short Γ (suc i) n h, leng
 pub list-short : (s : List ℕ) (Γ : Env signature1) → IsWidest s Γ → length (listFile s Γ) ≤ 13512
 list-short s Γ t =
     let f = table-passes s .0 (t .sound) .frame in
-    let k : length (tableOf s .steps) ≡ steps s = listed-length _ 0 (steps s) in
-    let small : (x : ℕ) → length (bytes (Γ x)) ≤ 129 = λ x. omega (arith, small-bytes1 (tableOf s) (table-checked s (t .sound)) Γ (t .typing) x, f .few-steps, k) in
     let N = length (translation signature1 halves (tableOf s)) in
     let header = headerBytes (symbols s) N in
     let types = typesBytes (typesTo Γ (symbols s)) in
@@ -53,7 +49,7 @@ list-short s Γ t =
       header-length (symbols s) N,
       bytes-length (translation signature1 halves (tableOf s)),
       few-statements s Γ t,
-      types-short Γ 0 (symbols s) small,
+      types-short Γ 0 (symbols s) (widest-short s Γ t),
       f .few-symbols,
     )
 
