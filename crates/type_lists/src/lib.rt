@@ -4,7 +4,7 @@ use type_bytes::End;
 ghost use Rattle.type_lists.specs.Lists.{TypeIs, SizeIs, TypePut, TypesPut};
 
 // The bytes of the type in slot x, as the part of the slots that holds them; none where there is no slot x.
-fn slot_type<'a>(work: &'a [u8], x: u8) -> &'a [u8]
+pub fn slot_type<'a>(work: &'a [u8], x: u8) -> &'a [u8]
     ensures { λ r. ⌜ TypeIs (now (work .entry)) x (now r) ⌝ }
 {
     let at = base::wide(x) * 129;

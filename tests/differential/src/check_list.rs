@@ -1,20 +1,20 @@
 //! Reading a list, given the number of free symbols: numbers 1 to 5, or S, N and the offset of the first statement.
 
 use generate::Rng;
+use second::refusal::LIST;
 
-use crate::compare::compare;
-use crate::inputs::a_list;
-use crate::ours;
-use crate::service::{Case, Service};
+use crate::compare::{compare, nothing_further};
+use crate::inputs::{a_list, damages, list_kinds};
+use crate::service::{answers, Case, Service, KIND};
 
 pub const SERVICE: Service = Service {
     name: "check_list",
-    numbers: &[0, 1, 2, 3, 4, 5],
+    owed: || vec![answers(&[(LIST, 1, 5)]), (KIND, list_kinds()), damages()],
     case,
 };
 
 fn case(rng: &mut Rng) -> Case {
-    let (input, right) = a_list(rng);
+    let (inputs, right) = a_list(rng);
     let free = match rng.below(8) {
         0 => rng.below(300),
         1 => rng.pick(&[0, 96, 255, 256, 257, usize::MAX - 513, usize::MAX - 1, usize::MAX]),
@@ -22,14 +22,14 @@ fn case(rng: &mut Rng) -> Case {
         3 => right.saturating_sub(1),
         _ => right,
     };
-    let expected = second::service::check_list(&input.bytes, free);
-    let ours = |list: &[u8], answer: &mut [u64]| ours::check_list(list, free, answer);
-    let difference = compare(rng, &input.bytes, &expected, ours).err();
-    Case {
-        difference: difference.map(|words| format!("free {free}: {words}")),
-        kind: input.kind,
-        damage: input.damage,
-        number: expected[0],
-        inputs: vec![("list", input.bytes)],
-    }
+    let compared = compare(
+        rng,
+        &inputs.bytes(),
+        &[],
+        |files, _| second::service::check_list(files[0], free),
+        |files, _, answer| ours::check_list(files[0], free, answer),
+        nothing_further,
+    );
+    let difference = compared.difference.map(|words| format!("free {free}: {words}"));
+    inputs.case(&compared.answer, difference)
 }

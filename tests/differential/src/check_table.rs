@@ -1,26 +1,27 @@
 //! Reading a table: numbers 1 to 9, or S, T and P.
 
 use generate::Rng;
+use second::refusal::TABLE;
 
-use crate::compare::compare;
-use crate::inputs::a_table;
-use crate::ours;
-use crate::service::{Case, Service};
+use crate::compare::{compare, nothing_further};
+use crate::inputs::{a_table, damages, table_kinds};
+use crate::service::{answers, Case, Service, KIND};
 
 pub const SERVICE: Service = Service {
     name: "check_table",
-    numbers: &[0, 1, 2, 3, 4, 5, 6, 7, 8, 9],
+    owed: || vec![answers(&[(TABLE, 1, 9)]), (KIND, table_kinds()), damages()],
     case,
 };
 
 fn case(rng: &mut Rng) -> Case {
-    let input = a_table(rng);
-    let expected = second::service::check_table(&input.bytes);
-    Case {
-        difference: compare(rng, &input.bytes, &expected, ours::check_table).err(),
-        kind: input.kind,
-        damage: input.damage,
-        number: expected[0],
-        inputs: vec![("table", input.bytes)],
-    }
+    let inputs = a_table(rng);
+    let compared = compare(
+        rng,
+        &inputs.bytes(),
+        &[],
+        |files, _| second::service::check_table(files[0]),
+        |files, _, answer| ours::check_table(files[0], answer),
+        nothing_further,
+    );
+    inputs.case(&compared.answer, compared.difference)
 }

@@ -1,26 +1,27 @@
 //! Reading a trace: numbers 1 to 6, or V, K and F.
 
 use generate::Rng;
+use second::refusal::TRACE;
 
-use crate::compare::compare;
-use crate::inputs::a_trace;
-use crate::ours;
-use crate::service::{Case, Service};
+use crate::compare::{compare, nothing_further};
+use crate::inputs::{a_trace, damages, trace_kinds};
+use crate::service::{answers, Case, Service, KIND};
 
 pub const SERVICE: Service = Service {
     name: "check_trace",
-    numbers: &[0, 1, 2, 3, 4, 5, 6],
+    owed: || vec![answers(&[(TRACE, 1, 6)]), (KIND, trace_kinds()), damages()],
     case,
 };
 
 fn case(rng: &mut Rng) -> Case {
-    let input = a_trace(rng);
-    let expected = second::service::check_trace(&input.bytes);
-    Case {
-        difference: compare(rng, &input.bytes, &expected, ours::check_trace).err(),
-        kind: input.kind,
-        damage: input.damage,
-        number: expected[0],
-        inputs: vec![("trace", input.bytes)],
-    }
+    let inputs = a_trace(rng);
+    let compared = compare(
+        rng,
+        &inputs.bytes(),
+        &[],
+        |files, _| second::service::check_trace(files[0]),
+        |files, _, answer| ours::check_trace(files[0], answer),
+        nothing_further,
+    );
+    inputs.case(&compared.answer, compared.difference)
 }

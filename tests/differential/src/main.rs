@@ -1,18 +1,23 @@
 //! The differential test: the proved static library and the second implementation answer the same generated cases.
 //!
-//! `differential [--cases N] [--seed X]`. The last line is `N passed, M failed`: N cases compared equal; M are the cases that
-//! differ, and one for each refusal number that no case hit. Exit status 1 where M is not 0, 2 for wrong use.
+//! `differential [--cases N | --in-all N] [--seed X] [--only SERVICE] [--from I]`: N cases of each service, or N in all. With
+//! `--from` they start at case I, to see a case again, and nothing is owed. The last line is `N passed, M failed`: N cases compared
+//! equal; M are the cases that differ, and one for each answer, ending, kind, damage and length of a buffer that no case hit. Exit
+//! status 1 where M is not 0, 2 for wrong use.
 //! A further service is one further module with a `SERVICE`, and its line in `SERVICES`.
 
 mod check_list;
 mod check_table;
 mod check_trace;
 mod compare;
+mod compile;
 mod inputs;
-mod ours;
+mod lent;
 mod report;
+mod room;
 mod service;
 mod type_of;
+mod type_table;
 
 use std::process::ExitCode;
 
@@ -21,44 +26,75 @@ use generate::Rng;
 use report::Report;
 use service::Service;
 
-const SERVICES: [Service; 4] = [
+const SERVICES: &[Service] = &[
     check_table::SERVICE,
     check_list::SERVICE,
     check_trace::SERVICE,
     type_of::SERVICE,
+    type_table::SERVICE,
+    compile::SERVICE,
 ];
 
 fn main() -> ExitCode {
-    let Some((cases, seed)) = arguments(std::env::args().skip(1).collect()) else {
-        eprintln!("use: differential [--cases N] [--seed X]");
+    let Some(asked) = arguments(std::env::args().skip(1).collect()) else {
+        let names: Vec<&str> = SERVICES.iter().map(|service| service.name).collect();
+        let names = names.join("|");
+        eprintln!("use: differential [--cases N | --in-all N] [--seed X] [--only {names}] [--from I]");
         return ExitCode::from(2);
     };
     let mut report = Report::default();
-    for index in 0..cases {
-        let service = &SERVICES[(index % SERVICES.len() as u64) as usize];
-        let case = (service.case)(&mut Rng::part(seed, index));
-        report.add(service, &case, seed, index);
+    for service in &asked.services {
+        // Each service has its own cases, the same ones whatever other services are asked.
+        let seed = service
+            .name
+            .bytes()
+            .fold(asked.seed, |seed, byte| Rng::part(seed, byte.into()).number());
+        let first = asked.from.unwrap_or(0);
+        for index in first..first + asked.cases {
+            let case = (service.case)(&mut Rng::part(seed, index));
+            report.add(service, case, asked.seed, index);
+        }
     }
-    if report.close(&SERVICES, seed) {
+    if report.close(&asked.services, asked.seed, asked.from.is_none()) {
         ExitCode::SUCCESS
     } else {
         ExitCode::from(1)
     }
 }
 
-/// The number of cases and the seed.
-fn arguments(given: Vec<String>) -> Option<(u64, u64)> {
-    let (mut cases, mut seed) = (20_000, 1);
+struct Asked {
+    cases: u64,
+    seed: u64,
+    from: Option<u64>,
+    services: Vec<&'static Service>,
+}
+
+fn arguments(given: Vec<String>) -> Option<Asked> {
+    let mut asked = Asked {
+        cases: 20_000,
+        seed: 1,
+        from: None,
+        services: SERVICES.iter().collect(),
+    };
+    let mut in_all = None;
     for pair in given.chunks(2) {
         let [name, value] = pair else {
             return None;
         };
-        let number = value.parse().ok()?;
         match name.as_str() {
-            "--cases" => cases = number,
-            "--seed" => seed = number,
+            "--cases" => asked.cases = value.parse().ok()?,
+            "--in-all" => in_all = Some(value.parse::<u64>().ok()?),
+            "--seed" => asked.seed = value.parse().ok()?,
+            "--from" => asked.from = Some(value.parse().ok()?),
+            "--only" => asked.services.retain(|service| service.name == value),
             _ => return None,
         }
     }
-    Some((cases, seed))
+    if asked.services.is_empty() {
+        return None;
+    }
+    if let Some(cases) = in_all {
+        asked.cases = cases / asked.services.len() as u64;
+    }
+    Some(asked)
 }

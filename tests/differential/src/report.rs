@@ -1,4 +1,4 @@
-//! Counts by service, number, kind and damage, and the few differing cases that are printed.
+//! Counts by service, title and label, and the few differing cases that are printed.
 
 use std::collections::BTreeMap;
 
@@ -10,62 +10,51 @@ const PRINTED: usize = 5;
 pub struct Report {
     equal: usize,
     different: usize,
-    damaged: usize,
-    numbers: BTreeMap<(&'static str, u64), usize>,
-    kinds: BTreeMap<(&'static str, String), usize>,
-    damages: BTreeMap<String, usize>,
+    counts: BTreeMap<(&'static str, &'static str), BTreeMap<String, usize>>,
 }
 
 impl Report {
-    pub fn add(&mut self, service: &Service, case: &Case, seed: u64, index: u64) {
-        *self.numbers.entry((service.name, case.number)).or_default() += 1;
-        *self.kinds.entry((service.name, case.kind.clone())).or_default() += 1;
-        if let Some(how) = case.damage {
-            self.damaged += 1;
-            *self.damages.entry(format!("{how:?}")).or_default() += 1;
+    pub fn add(&mut self, service: &Service, case: Case, seed: u64, index: u64) {
+        for (title, label) in case.counted {
+            let labels = self.counts.entry((service.name, title)).or_default();
+            *labels.entry(label).or_default() += 1;
         }
-        match &case.difference {
-            None => self.equal += 1,
-            Some(words) => {
-                self.different += 1;
-                if self.different <= PRINTED {
-                    let (kind, damage) = (&case.kind, case.damage);
-                    println!("seed {seed} case {index}, {}: {words}", service.name);
-                    println!("  kind {kind}, damage {damage:?}");
-                    for (name, bytes) in &case.inputs {
-                        println!("  {name} {}", hex(bytes));
-                    }
-                }
+        let Some(words) = case.difference else {
+            self.equal += 1;
+            return;
+        };
+        self.different += 1;
+        if self.different <= PRINTED {
+            println!("seed {seed}, case {index} of {}: {words}", service.name);
+            for (name, bytes) in &case.inputs {
+                println!("  {name} {}", hex(bytes));
             }
         }
     }
 
-    /// Prints the counts and, as the last line, the sum. Says whether all is well: no difference, and every number was hit.
-    pub fn close(&self, services: &[Service], seed: u64) -> bool {
+    /// Prints the counts and, as the last line, the sum. Says whether all is well: no difference and, unless nothing is owed, all
+    /// that is owed was hit.
+    pub fn close(&self, services: &[&Service], seed: u64, owing: bool) -> bool {
         let mut missed = 0;
-        println!(
-            "seed {seed}, {} cases, {} of them damaged",
-            self.equal + self.different,
-            self.damaged
-        );
+        println!("seed {seed}, {} cases", self.equal + self.different);
         for service in services {
-            let hits = |number: &u64| self.numbers.get(&(service.name, *number)).copied().unwrap_or(0);
-            let line: Vec<String> = service.numbers.iter().map(|n| format!("{n}: {}", hits(n))).collect();
-            println!("{} by number: {}", service.name, line.join(", "));
-            for number in service.numbers.iter().filter(|n| hits(n) == 0) {
-                println!("{}: no case hit number {number}", service.name);
-                missed += 1;
+            for (title, labels) in &(service.owed)() {
+                let none = BTreeMap::new();
+                let counts = self.counts.get(&(service.name, *title)).unwrap_or(&none);
+                let hits = |label: &String| counts.get(label).copied().unwrap_or(0);
+                let others = counts.keys().filter(|label| !labels.contains(label));
+                let line: Vec<String> = labels
+                    .iter()
+                    .chain(others)
+                    .map(|label| format!("{label}: {}", hits(label)))
+                    .collect();
+                println!("{} by {title}: {}", service.name, line.join(", "));
+                for label in labels.iter().filter(|label| owing && hits(label) == 0) {
+                    println!("{}: no case with {title} {label}", service.name);
+                    missed += 1;
+                }
             }
-            let kinds = self.kinds.iter().filter(|((name, _), _)| *name == service.name);
-            let line: Vec<String> = kinds.map(|((_, kind), count)| format!("{kind} {count}")).collect();
-            println!("{} by kind: {}", service.name, line.join(", "));
         }
-        let line: Vec<String> = self
-            .damages
-            .iter()
-            .map(|(how, count)| format!("{how} {count}"))
-            .collect();
-        println!("damage: {}", line.join(", "));
         println!("{} passed, {} failed", self.equal, self.different + missed);
         self.different + missed == 0
     }

@@ -2,34 +2,43 @@
 
 use generate::Rng;
 
-use crate::compare::compare;
-use crate::inputs::a_list;
-use crate::ours;
-use crate::service::{Case, Service};
+use crate::compare::{compare, nothing_further};
+use crate::inputs::{a_list, damages, list_kinds};
+use crate::service::{answers, Case, Service, KIND};
+
+/// Whether the part is empty.
+const PART: &str = "part";
 
 pub const SERVICE: Service = Service {
     name: "type_of",
-    numbers: &[0],
+    owed: || {
+        let parts = ["a type", "empty"].map(String::from).to_vec();
+        vec![answers(&[]), (PART, parts), (KIND, list_kinds()), damages()]
+    },
     case,
 };
 
 fn case(rng: &mut Rng) -> Case {
-    let (input, _) = a_list(rng);
-    let symbols = input.bytes.get(5).map_or(0, |&s| usize::from(s));
+    let (inputs, _) = a_list(rng);
+    let symbols = inputs.bytes()[0].get(5).map_or(0, |&s| usize::from(s));
     let symbol = match rng.below(8) {
         0 => rng.pick(&[0, 95, 96, 255, 256, usize::MAX - 1, usize::MAX]),
         1 => rng.number() as usize,
         2 => symbols,
         _ => rng.below(symbols + 1),
     };
-    let expected = second::service::type_of(&input.bytes, symbol);
-    let ours = |list: &[u8], answer: &mut [u64]| ours::type_of(list, symbol, answer);
-    let difference = compare(rng, &input.bytes, &expected, ours).err();
-    Case {
-        difference: difference.map(|words| format!("symbol {symbol}: {words}")),
-        kind: input.kind,
-        damage: input.damage,
-        number: expected[0],
-        inputs: vec![("list", input.bytes)],
-    }
+    let compared = compare(
+        rng,
+        &inputs.bytes(),
+        &[],
+        |files, _| second::service::type_of(files[0], symbol),
+        |files, _, answer| ours::type_of(files[0], symbol, answer),
+        nothing_further,
+    );
+    let difference = compared.difference.map(|words| format!("symbol {symbol}: {words}"));
+    let answer = compared.answer;
+    let mut case = inputs.case(&answer, difference);
+    let part = if answer[4] == 0 { "empty" } else { "a type" };
+    case.counted.push((PART, part.to_string()));
+    case
 }

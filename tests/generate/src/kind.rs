@@ -29,6 +29,8 @@ pub enum Change {
     LeftForRight,
     TypesChanged,
     BuildNotInTable,
+    /// The list of the table with two neighbouring steps swapped.
+    NearbyTable,
     AnotherTable,
 }
 
@@ -84,7 +86,7 @@ impl TableKind {
 }
 
 impl Change {
-    pub const ALL: [Change; 10] = [
+    pub const ALL: [Change; 11] = [
         Change::ComparisonDropped,
         Change::OperandsSwapped,
         Change::AnotherSymbol,
@@ -94,6 +96,7 @@ impl Change {
         Change::LeftForRight,
         Change::TypesChanged,
         Change::BuildNotInTable,
+        Change::NearbyTable,
         Change::AnotherTable,
     ];
 }

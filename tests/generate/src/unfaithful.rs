@@ -16,15 +16,25 @@ pub fn unfaithful(rng: &mut Rng, table: &[u8], change: Change) -> Option<Vec<u8>
     let (parsed, _) = typed_table(table).ok()?;
     let free = parsed.free().len();
     for _ in 0..6 {
-        let bytes = if change == Change::AnotherTable {
-            let other = some_typed(rng);
-            accepted(rng, &other)?
-        } else {
-            let mut raw = RawList::of(&judged(table, &accepted(rng, table)?).ok()?.1);
-            if !apply(rng, &mut raw, free, change) {
-                continue;
+        let bytes = match change {
+            Change::AnotherTable => {
+                let other = some_typed(rng);
+                accepted(rng, &other)?
             }
-            raw.bytes()
+            Change::NearbyTable => {
+                let other = with_steps_swapped(rng, table, parsed.steps.len());
+                match other.and_then(|other| accepted(rng, &other)) {
+                    Some(bytes) => bytes,
+                    None => continue,
+                }
+            }
+            _ => {
+                let mut raw = RawList::of(&judged(table, &accepted(rng, table)?).ok()?.1);
+                if !apply(rng, &mut raw, free, change) {
+                    continue;
+                }
+                raw.bytes()
+            }
         };
         let readable = read_list(&bytes, free).is_ok();
         if readable && (11..=13).contains(&judge(table, &bytes)[0]) {
@@ -32,6 +42,17 @@ pub fn unfaithful(rng: &mut Rng, table: &[u8], change: Change) -> Option<Vec<u8>
         }
     }
     None
+}
+
+/// The table, which has so many steps, with two neighbouring ones swapped; none if there are no two. Steps are its last entries.
+fn with_steps_swapped(rng: &mut Rng, table: &[u8], steps: usize) -> Option<Vec<u8>> {
+    if steps < 2 {
+        return None;
+    }
+    let first = table.len() - 5 * (steps - rng.below(steps - 1));
+    let mut other = table.to_vec();
+    other[first..first + 10].rotate_left(5);
+    Some(other)
 }
 
 /// Changes the list in one place; false if there is no such place.
@@ -104,7 +125,7 @@ fn apply(rng: &mut Rng, raw: &mut RawList, free: usize, change: Change) -> bool 
             let (p, q) = (rng.below(registers) as u8, rng.below(registers) as u8);
             raw.insert(free, at, [rng.within(7, 8) as u8, p, q, 0]);
         }
-        Change::AnotherTable => return false,
+        Change::NearbyTable | Change::AnotherTable => return false,
     }
     raw.statements.len() <= 512
 }

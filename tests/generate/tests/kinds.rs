@@ -74,7 +74,9 @@ fn lists_of_each_kind() {
             match kind {
                 ListKind::Compiled | ListKind::Faithful => assert_eq!(number, 0, "{kind:?} {i}"),
                 ListKind::Unfaithful(Change::TypesChanged) => assert_eq!(number, 11, "{i}"),
-                ListKind::Unfaithful(Change::AnotherTable) => assert!((11..=13).contains(&number), "{i}"),
+                ListKind::Unfaithful(Change::AnotherTable | Change::NearbyTable) => {
+                    assert!((11..=13).contains(&number), "{i}");
+                }
                 ListKind::Unfaithful(_) => assert!((12..=13).contains(&number), "{kind:?} {i}"),
                 ListKind::Fault(n) => {
                     assert_eq!(number, u64::from(n), "{kind:?} {i}");

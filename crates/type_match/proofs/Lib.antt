@@ -1,0 +1,2 @@
+-- Laws of number 11.
+pub mod MatchLaws
