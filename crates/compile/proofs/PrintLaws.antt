@@ -3,7 +3,7 @@ use mathlib.Core.Path.{_≡_, refl, sym, ap, _∙_}
 use mathlib.Core.List.{List, [], _∷_, _++_}
 use Prim.Native.Nat.{ℕ, zero, suc, _+_, _*_, _≤_, _<_}
 use native.Mathlib.Omega.{arith}
-use lib.ListN.{length, take, drop, length-append, length-take}
+use lib.ListN.{length, take, drop, length-append}
 use lib.Seq.{take-append-seam}
 use Rattle.answers.specs.declared.Refusal.{Refusal}
 use Rattle.answers.specs.declared.Check.{Check}
@@ -26,6 +26,7 @@ use Rattle.compile_service.specs.Files.{listFile}
 use Rattle.compile_service.proofs.FileLaws.{file-parts, few-statements, header-length}
 use Rattle.compile_service.proofs.ReadBack.{widest-short}
 use Rattle.lines.specs.Lines.{LinePut}
+use Rattle.lines.proofs.LineLaws.{counted}
 use Rattle.compile.specs.Printed.{Text, a-list, a-line, Printed}
 
 -- types of at most 129 bytes, with their length bytes
@@ -62,9 +63,6 @@ over-longer : (w z : List ℕ) → length w ≤ length (over w z)
 unfolding over
 over-longer w z = omega (arith, length-append w (drop (length w) z))
 
-pub counted : (r : ℕ) (o : List ℕ) → r ≤ length o → r ≡ length (take r o)
-counted r o l = omega (arith, length-take r o)
-
 -- a list
 pub list-printed : (s z o : List ℕ) (a : Check) (n : ℕ) → Answered (listFile s) s z o a n → a ≡ Pass → Printed s z o n
 list-printed s z o a n (table-refused r) e = let y : _≡_ {A = ℕ} 0 1 = cc in absurd (omega arith)
@@ -79,7 +77,7 @@ list-printed s z o a n (written {Γ = Γ} t l) e = record {
 pub line-printed : (s z o : List ℕ) (a : Check) (n : ℕ) (x : Refusal) (p : List ℕ) (r : ℕ) → Answered (listFile s) s z o a n → a ≡ Refuse x → LinePut x o p r → Printed s z p r
 line-printed s z o a n x p r (table-refused {x = y} q) e l = record {
   inside = l .inside;
-  counted = counted _ _ (l .inside);
+  counted = l .counted;
   text = λ h.
       let (line, of, m, w) = l .put (omega arith) in
       let g : y ≡ x = cc in
@@ -87,7 +85,7 @@ line-printed s z o a n x p r (table-refused {x = y} q) e l = record {
 }
 line-printed s z o a n x p r (too-short {Γ = Γ} t q) e l = record {
   inside = l .inside;
-  counted = counted _ _ (l .inside);
+  counted = l .counted;
   text = λ h. absurd (omega (arith, list-short s Γ t));
 }
 line-printed s z o a n x p r (written t q) e l = let y : _≡_ {A = ℕ} 0 1 = cc in absurd (omega arith)

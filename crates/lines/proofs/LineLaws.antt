@@ -7,7 +7,7 @@ use native.Mathlib.Decide.{decLt}
 use lib.Pow.{pow-add}
 use Rattle.io.specs.Digits.{Fewest}
 use native.Mathlib.Omega.{arith}
-use lib.ListN.{length, take, drop, length-append, length-drop}
+use lib.ListN.{length, take, drop, length-append, length-drop, length-take}
 use borrow.Rule.Slice.PartMut.{putMid}
 use Rattle.answers.specs.declared.Refusal.{Refusal}
 use Rattle.buffers.specs.Over.{over, overIf}
@@ -42,6 +42,10 @@ text-put t xs ys at l k q =
       kept = lent-length at xs ys k;
       wrote = λ w y e f. over-lent w t y xs ys at e f (q ∙ over-fits t (take (length xs - at) (drop at xs)) (omega (arith, s)));
     }
+
+-- as many bytes as are counted
+pub counted : (r : ℕ) (o : List ℕ) → r ≤ length o → r ≡ length (take r o)
+counted r o l = omega (arith, length-take r o)
 
 -- a piece more: what stands at the start, and where it ends
 module _ (y w t : List ℕ) (at r : ℕ) (z o : List ℕ) (p : Appended t at z o r) (e : at ≡ length w) (f : z ≡ over w y) where
@@ -87,10 +91,12 @@ module _ (x : Refusal) (z o₁ o₂ o₃ o₄ o₅ o₆ o₇ : List ℕ) (r₁ r
       let f₇ = stands z w₆ (10 ∷ []) _ _ _ _ b₄ e₆ f₆ in
       let e₇ = ends-there z w₆ (10 ∷ []) _ _ _ _ b₄ e₆ f₆ in
       let q : w₆ ++ (10 ∷ []) ≡ lineOf (n₁ .text) (n₂ .text) (n₃ .text) = simp append-assoc in
+      let in-buffer : r₇ ≤ length o₇ = omega (arith, b₄ .ends, b₄ .kept, b₃ .kept, b₂ .kept, b₁ .kept, n₁ .appended .kept, n₂ .appended .kept, n₃ .appended .kept, b₁ .ends, b₂ .ends, b₃ .ends, n₁ .appended .ends, n₂ .appended .ends, n₃ .appended .ends, n₁ .short, n₂ .short, n₃ .short) in
       record {
-        inside = omega (arith, b₄ .ends, b₄ .kept, b₃ .kept, b₂ .kept, b₁ .kept, n₁ .appended .kept, n₂ .appended .kept, n₃ .appended .kept, b₁ .ends, b₂ .ends, b₃ .ends, n₁ .appended .ends, n₂ .appended .ends, n₃ .appended .ends, n₁ .short, n₂ .short, n₃ .short);
+        inside = in-buffer;
+        counted = counted r₇ o₇ in-buffer;
         put = λ l. (lineOf (n₁ .text) (n₂ .text) (n₃ .text), record { number = n₁ .text; file = n₂ .text; place = n₃ .text; of-number = n₁ .decimal; of-file = n₂ .decimal; of-place = n₃ .decimal; is = refl }, e₇ ∙ ap (λ (v : List ℕ). length v) q, f₇ ∙ ap (λ (v : List ℕ). over v z) q);
       }
 
 pub no-line : (x : Refusal) (z : List ℕ) → length z < 71 → LinePut x z z 0
-no-line x z l = record { inside = omega arith; put = λ h. absurd (omega arith) }
+no-line x z l = record { inside = omega arith; counted = counted 0 z (omega arith); put = λ h. absurd (omega arith) }

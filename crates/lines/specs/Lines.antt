@@ -2,7 +2,7 @@
 use mathlib.Core.Path.{_≡_}
 use mathlib.Core.List.{List, [], _∷_, _++_}
 use Prim.Native.Nat.{ℕ, _+_, _≤_}
-use lib.ListN.{length}
+use lib.ListN.{length, take}
 use Rattle.io.specs.Digits.{digits, Fewest}
 use Rattle.answers.specs.declared.Refusal.{Refusal}
 use Rattle.buffers.specs.Over.{over}
@@ -47,4 +47,5 @@ pub record LineOf (x : Refusal) (line : List ℕ) : Type 0 where
 -- it was written at the start of z, if z is long enough, and r is its length
 pub record LinePut (x : Refusal) (z o : List ℕ) (r : ℕ) : Type 0 where
   pub inside : r ≤ length o
+  pub counted : r ≡ length (take r o)
   pub put : 71 ≤ length z → (line : List ℕ) × LineOf x line × (r ≡ length line) × (o ≡ over line z)

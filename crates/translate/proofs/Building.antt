@@ -20,10 +20,11 @@ use Rattle.calculus.specs.Version1.{encryption}
 use Rattle.rendering.specs.Judge.{Meaning, symbol, term, meantBy}
 use Rattle.entries.specs.Tiling.{joined}
 use Rattle.decoded_list.specs.Bytes.{statementBytes, statementsBytes, twoOp}
-use Rattle.translate.specs.Stepwise.{Making, meaningOf, registerAt, built, kindOf, making, after}
+use Rattle.free_symbols.specs.Entries.{meaningOf, kindOf}
+use Rattle.translate.specs.Stepwise.{Making, registerAt, built, making, after}
 use Rattle.translate.specs.Registers.{held, Held, Ready, Done, heldAt, registerIn, settled, makeBytes, Noted}
 use Rattle.translate.proofs.HeldLaws.{noted-term, register-held}
-use Rattle.translate.proofs.Tabled.{counts-small, a-leaf, a-compound, IsCompound}
+use Rattle.free_symbols.proofs.Tabled.{counts-small, a-leaf, a-compound, IsCompound}
 use Rattle.translate.proofs.BuiltLaws.{built-grows, built-settled, Unsettled, not-settled, built-made, compound-means}
 use Rattle.translate.proofs.Writing.{done-length, ready-first, ready-second, done-both, done-nothing}
 

@@ -21,10 +21,11 @@ use Rattle.rendering.specs.Translation.{registerOf, isBuilt, parts, Made, build
 use Rattle.decoded.specs.Table.{tableOf}
 use Rattle.decoded.proofs.Passed.{table-passed}
 use Rattle.decoded.proofs.Holding.{table-closed, entries-length}
-use Rattle.translate.specs.Stepwise.{Making, entriesOf, meaningOf, registerAt, built, kindOf, making, after}
+use Rattle.free_symbols.specs.Entries.{entriesOf, meaningOf, kindOf}
+use Rattle.translate.specs.Stepwise.{Making, registerAt, built, making, after}
 use Rattle.translate.specs.Registers.{held, HeldTerms, settled}
 use Rattle.translate.proofs.HeldLaws.{held-built, held-unbuilt}
-use Rattle.translate.proofs.Tabled.{counts-small, a-leaf, a-compound, IsCompound}
+use Rattle.free_symbols.proofs.Tabled.{counts-small, a-leaf, a-compound, IsCompound}
 
 -- ── The bound on the depth ──
 

@@ -15,7 +15,7 @@ use Rattle.rendering.specs.Translation.{compounds}
 use Rattle.entries.specs.Tiling.{listed}
 use Rattle.decoded.specs.Table.{entryOf, actOf, termAt, stepAt, tableOf}
 use Rattle.translate.specs.Stepwise.{dueOf, dueCount, compoundOf, compoundCount}
-use Rattle.translate.proofs.Tabled.{step-as, term-as}
+use Rattle.free_symbols.proofs.Tabled.{step-as, term-as}
 use Rattle.translate.proofs.StepWriting.{few-due}
 
 -- f i + f (i + 1) + .., of which there are n

@@ -1,6 +1,5 @@
 -- Laws of the translation into bytes.
 pub mod HeldLaws
-pub mod Tabled
 pub mod BuiltLaws
 pub mod Writing
 pub mod Building

@@ -34,8 +34,9 @@ use Rattle.decoded.proofs.Shapes.{step-role, step-binds}
 use Rattle.decoded.proofs.Holding.{entries-length}
 use Rattle.decoded.proofs.Checked.{table-checked}
 use Rattle.decoded.proofs.Unlike.{terms-unrepeated}
-use Rattle.translate.specs.Stepwise.{entriesOf, dueCount, compoundCount}
-use Rattle.translate.proofs.Tabled.{counts-small, a-leaf, a-compound, step-as, step-known, term-role}
+use Rattle.free_symbols.specs.Entries.{entriesOf}
+use Rattle.translate.specs.Stepwise.{dueCount, compoundCount}
+use Rattle.free_symbols.proofs.Tabled.{counts-small, a-leaf, a-compound, step-as, step-known, term-role}
 
 in-listed : {A : Type 0} (f : ℕ → A) (i n k : ℕ) → i ≤ k → k < i + n → In (f k) (listed f i n)
 unfolding listed

@@ -14,7 +14,8 @@ use Rattle.rendering.specs.Rendering.{halves}
 use Rattle.rendering.specs.Judge.{Meaning, symbol, term}
 use Rattle.rendering.specs.Translation.{translation, translated}
 use Rattle.decoded.specs.Table.{tableOf}
-use Rattle.translate.specs.Stepwise.{Making, entriesOf, stepsMade, atStart}
+use Rattle.free_symbols.specs.Entries.{entriesOf}
+use Rattle.translate.specs.Stepwise.{Making, stepsMade, atStart}
 use Rattle.translate.specs.Registers.{HeldSymbols, HeldTerms, Ready}
 use Rattle.translate.proofs.HeldLaws.{held-none, symbol-kept}
 use Rattle.translate.proofs.Ranged.{all-fits}

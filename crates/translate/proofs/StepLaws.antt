@@ -22,9 +22,10 @@ use Rattle.rendering.specs.Translation.{registerOf, buildEach, stated}
 use Rattle.entries.specs.Tiling.{joined}
 use Rattle.decoded.specs.Table.{actOf, stepAt}
 use Rattle.decoded_list.specs.Bytes.{statementBytes, statementsBytes, halfOp}
-use Rattle.translate.specs.Stepwise.{Making, entriesOf, meaningOf, registerAt, built, after, operandsBuilt, stepStated, stepBound}
+use Rattle.free_symbols.specs.Entries.{entriesOf, meaningOf}
+use Rattle.translate.specs.Stepwise.{Making, registerAt, built, after, operandsBuilt, stepStated, stepBound}
 use Rattle.translate.specs.Registers.{Held, HeldSymbols, registerIn, stateBytes, stepBytes, Noted}
-use Rattle.translate.proofs.Tabled.{step-as, step-known, operand-there}
+use Rattle.free_symbols.proofs.Tabled.{step-as, step-known, operand-there}
 use Rattle.translate.proofs.BuiltLaws.{two-after}
 use Rattle.translate.proofs.HeldLaws.{noted-symbol}
 use Rattle.translate.proofs.Building.{register-right}

@@ -20,9 +20,10 @@ use Rattle.rendering.specs.Translation.{registerOf, stated}
 use Rattle.entries.specs.Tiling.{joined}
 use Rattle.decoded.specs.Table.{actOf, stepAt}
 use Rattle.decoded_list.specs.Bytes.{statementBytes, statementsBytes, halfOp}
-use Rattle.translate.specs.Stepwise.{Making, entriesOf, meaningOf, registerAt, after, operandsBuilt, stepStated, stepBound, stepMade}
+use Rattle.free_symbols.specs.Entries.{entriesOf, meaningOf}
+use Rattle.translate.specs.Stepwise.{Making, registerAt, after, operandsBuilt, stepStated, stepBound, stepMade}
 use Rattle.translate.specs.Registers.{Held, HeldSymbols, HeldTerms, Ready, Done, registerIn, stateBytes, stepBytes}
-use Rattle.translate.proofs.Tabled.{step-as, step-known}
+use Rattle.free_symbols.proofs.Tabled.{step-as, step-known}
 use Rattle.translate.proofs.HeldLaws.{symbol-kept}
 use Rattle.translate.proofs.Building.{register-right}
 use Rattle.translate.proofs.StepLaws.{first-there, second-there}

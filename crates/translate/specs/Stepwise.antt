@@ -1,34 +1,26 @@
 -- The translation piece by piece, as the code goes: what one term adds, one step, and the steps from one on. Assumes nothing:
 -- these are definitions.
 use mathlib.Core.List.{List, [], _∷_, _++_, map}
-use Prim.Native.Nat.{ℕ, zero, suc}
+use Prim.Native.Nat.{ℕ, suc}
 use lib.ListN.{length}
 use Rattle.answers.specs.declared.Check.{Check}
 use Rattle.answers.specs.declared.Check.the-variants.{Pass, Refuse}
 use Rattle.buffers.specs.Over.{overIf}
 use Rattle.entries.specs.Fields.{code}
 use Rattle.table_layout.specs.Layout.{termsAt, termField}
-use Rattle.calculus.specs.Signature.{Two, pairing, seal}
-use Rattle.calculus.specs.Terms.{build2, operands, binders, bound, Statement, build}
-use Rattle.calculus.specs.Tables.{Entry, free, process}
-use Rattle.calculus.specs.Version1.{Seal1, encryption, signature1}
+use Rattle.calculus.specs.Terms.{build2, operands, binders, Statement, build}
+use Rattle.calculus.specs.Tables.{free, process}
+use Rattle.calculus.specs.Version1.{signature1}
 use Rattle.rendering.specs.Rendering.{halves, duesOf, dues}
-use Rattle.rendering.specs.Judge.{Meaning, symbol, term, meant}
+use Rattle.rendering.specs.Judge.{Meaning, symbol, term}
 use Rattle.rendering.specs.Translation.{Made, registerOf, buildEach, buildTerm, stated, translateFrom, compounds}
 use Rattle.entries.specs.Tiling.{listed}
 use Rattle.decoded.specs.Table.{termAt, stepAt, tableOf}
+use Rattle.free_symbols.specs.Entries.{entriesOf, meaningOf, kindOf}
 
 -- statements, and what the registers mean after them
 abbrev pub Making : Type 0
 Making = Made signature1
-
--- the entries of a file's table
-unfoldable pub entriesOf : List ℕ → List (Entry signature1 ℕ)
-entriesOf s = tableOf s .entries
-
--- what index i of the table means
-unfoldable pub meaningOf : List ℕ → ℕ → Meaning
-meaningOf s i = meant signature1 (entriesOf s) i
 
 -- the register of term i
 unfoldable pub registerAt : List ℕ → List Meaning → ℕ → ℕ
@@ -37,12 +29,6 @@ registerAt s ms i = registerOf ms (meaningOf s i)
 -- term i is built, unless it is
 unfoldable pub built : List ℕ → ℕ → List Meaning → Making
 built s i ms = buildTerm signature1 (entriesOf s) (suc i) i ms
-
--- the kind of a compound term by its code: 1 pair, 2 encryption
-unfoldable pub kindOf : ℕ → Two Seal1
-kindOf zero = pairing
-kindOf (suc zero) = pairing
-kindOf (suc (suc op)) = seal encryption
 
 -- compound term i is made of its parts, which are built
 unfoldable pub making : List ℕ → ℕ → List Meaning → Making
@@ -72,10 +58,6 @@ stepMade s k ms = let r = operandsBuilt s k ms in (r .0 ++ stepStated s k (r .1)
 -- the steps from k on, of which there are n
 unfoldable pub stepsMade : List ℕ → ℕ → ℕ → List Meaning → Making
 stepsMade s k n ms = translateFrom signature1 (entriesOf s) halves (listed (stepAt s) k n) ms
-
--- the symbols that some step binds
-unfoldable pub boundIn : List ℕ → List ℕ
-boundIn s = bound signature1 (tableOf s .steps)
 
 -- how many statements step k makes due, and whether term i is compound
 unfoldable pub dueOf : List ℕ → ℕ → ℕ

@@ -13,15 +13,15 @@ ghost use Rattle.marks.specs.Put.{Put, blank};
 ghost use Rattle.entries.specs.Fields.{code};
 ghost use Rattle.table_layout.specs.Layout.{terms as termsOf, steps, termsAt, stepsAt};
 ghost use Rattle.table.specs.Faults.{tableRungs};
-ghost use Rattle.calculus.specs.Terms.{binders};
 ghost use Rattle.calculus.specs.Tables.{isIn};
 ghost use Rattle.calculus.specs.Version1.{signature1};
 ghost use Rattle.rendering.specs.Rendering.{halves};
 ghost use Rattle.rendering.specs.Translation.{translation};
-ghost use Rattle.decoded.specs.Table.{stepAt, tableOf};
+ghost use Rattle.decoded.specs.Table.{tableOf};
 ghost use Rattle.buffers.specs.Over.{over};
 ghost use Rattle.decoded_list.specs.Bytes.{statementsBytes};
-ghost use Rattle.translate.specs.Stepwise.{built, after, operandsBuilt, stepMade, stepsMade, boundIn, dueOf, dueCount, compoundOf, compoundCount, atStart, wroteIf};
+ghost use Rattle.free_symbols.specs.Free.{boundIn};
+ghost use Rattle.translate.specs.Stepwise.{built, after, operandsBuilt, stepMade, stepsMade, dueOf, dueCount, compoundOf, compoundCount, atStart, wroteIf};
 ghost use Rattle.translate.specs.Registers.{HeldSymbols, Ready, SomeReady, Makes, BindsStep, heldAt, registerIn, settled, makeBytes, stepBytes, Noted, NotesFree};
 
 // What a step adds: its statements, and the registers that are given after it.
@@ -332,37 +332,6 @@ fn write_steps(s: &[u8], symbols: &mut [u8; 256], terms: &mut [u8; 256], first: 
     }
 }
 
-// Marks the symbols that step k binds.
-fn mark_binders(s: &[u8], k: u8, bound: &mut [u8; 256])
-    requires { ⌜ code (now s) 1 (stepsAt (now s)) k < 6 ⌝ }
-    ensures { λ _. ⌜ Put (now (bound .entry)) (now (bound .exit)) (λ x. isIn x (binders signature1 (stepAt (now (s .entry)) k))) 1 ⌝ }
-{
-    let op = step_code(s, k);
-    if op == 0 {
-        return;
-    }
-    if op == 3 {
-        return;
-    }
-    marks::put(bound, true, table_layout::step_field(s, k, 2), 1);
-    if op == 4 {
-        marks::put(bound, true, table_layout::step_field(s, k, 3), 1);
-    }
-}
-
-// Marks all symbols that a step binds.
-fn mark_bound(s: &[u8], bound: &mut [u8; 256])
-    requires { ⌜ (least (tableRungs (now s)) ≡ Pass) × (now bound ≡ blank) ⌝ }
-    ensures { λ _. ⌜ Put blank (now (bound .exit)) (λ x. isIn x (boundIn (now (s .entry)))) 1 ⌝ }
-{
-    let n = table_layout::step_count(s);
-    let mut k = 0;
-    while k < n {
-        mark_binders(s, k, bound);
-        k += 1;
-    }
-}
-
 // Notes the next register for symbol x, if it is free. Answers how many registers are given then.
 fn note_if_free(bound: &[u8; 256], x: u8, symbols: &mut [u8; 256], registers: u8) -> u8
     requires { ⌜ registers < 255 ⌝ }
@@ -398,7 +367,7 @@ fn put_statements(s: &[u8], out: &mut [u8])
     ensures { λ _. ⌜ now (out .exit) ≡ over (statementsBytes (translation signature1 halves (tableOf (now (s .entry))))) (now (out .entry)) ⌝ }
 {
     let mut bound = [0u8; 256];
-    mark_bound(s, &mut bound);
+    free_symbols::mark_bound(s, &mut bound);
     let mut symbols = [0u8; 256];
     let first = note_free(s, &bound, &mut symbols);
     let mut terms = [0u8; 256];

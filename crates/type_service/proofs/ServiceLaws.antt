@@ -43,6 +43,25 @@ few-symbols s Γ t = table-passes s .0 (t .sound) .frame .few-symbols
 pub room-short : (need room : ℕ) (r : Check) → room < need → r ≡ Refuse (refusal 15 3 need) → Room need room r
 room-short need room r l q = rw q (short l)
 
+-- ── One widest typing, one refusal ──
+
+pub same-widest : (s : List ℕ) (Γ Δ : Env signature1) → IsWidest s Γ → IsWidest s Δ → Γ ≡ Δ
+same-widest s Γ Δ t u = let e : widest Γ ≡ widest Δ = one-answer1 (tableOf s) (widest Γ) (widest Δ) (t .typing) (u .typing) in cc
+
+pub not-both : (s : List ℕ) (Γ : Env signature1) (x : Refusal) → IsWidest s Γ → TableRefused s x → ⊥
+not-both s Γ x t (faulty e) = let q = t .sound in let y : _≡_ {A = ℕ} 0 1 = cc in absurd (omega arith)
+not-both s Γ x t (no-typing {k = k} p u) =
+    let e : widest Γ ≡ untyped k = one-answer1 (tableOf s) (widest Γ) (untyped k) (t .typing) u in
+    let y : _≡_ {A = ℕ} 0 1 = cc in absurd (omega arith)
+
+pub refused-once : (s : List ℕ) (x y : Refusal) → TableRefused s x → TableRefused s y → x ≡ y
+refused-once s x y (faulty e) (faulty f) = cc
+refused-once s x y (faulty e) (no-typing p u) = let y : _≡_ {A = ℕ} 0 1 = cc in absurd (omega arith)
+refused-once s x y (no-typing p u) (faulty e) = let y : _≡_ {A = ℕ} 0 1 = cc in absurd (omega arith)
+refused-once s x y (no-typing {k = i} p u) (no-typing {k = k} q v) =
+    let e : untyped i ≡ untyped k = one-answer1 (tableOf s) (untyped i) (untyped k) u v in
+    let f : i ≡ k = cc in rw f refl
+
 -- ── The answer ──
 
 module _ (file : Env signature1 → List ℕ) (s z : List ℕ) where
@@ -67,31 +86,14 @@ module _ (file : Env signature1 → List ℕ) (s z : List ℕ) where
 
   -- ── No second answer ──
 
-  same-widest : (Γ Δ : Env signature1) → IsWidest s Γ → IsWidest s Δ → Γ ≡ Δ
-  same-widest Γ Δ t u = let e : widest Γ ≡ widest Δ = one-answer1 (tableOf s) (widest Γ) (widest Δ) (t .typing) (u .typing) in cc
-
-  not-both : (Γ : Env signature1) (x : Refusal) → IsWidest s Γ → TableRefused s x → ⊥
-  not-both Γ x t (faulty e) = let q = t .sound in let y : _≡_ {A = ℕ} 0 1 = cc in absurd (omega arith)
-  not-both Γ x t (no-typing {k = k} p u) =
-      let e : widest Γ ≡ untyped k = one-answer1 (tableOf s) (widest Γ) (untyped k) (t .typing) u in
-      let y : _≡_ {A = ℕ} 0 1 = cc in absurd (omega arith)
-
-  refused-once : (x y : Refusal) → TableRefused s x → TableRefused s y → x ≡ y
-  refused-once x y (faulty e) (faulty f) = cc
-  refused-once x y (faulty e) (no-typing p u) = let y : _≡_ {A = ℕ} 0 1 = cc in absurd (omega arith)
-  refused-once x y (no-typing p u) (faulty e) = let y : _≡_ {A = ℕ} 0 1 = cc in absurd (omega arith)
-  refused-once x y (no-typing {k = i} p u) (no-typing {k = k} q v) =
-      let e : untyped i ≡ untyped k = one-answer1 (tableOf s) (untyped i) (untyped k) u v in
-      let f : i ≡ k = cc in rw f refl
-
   -- two answers, with two contents of the buffer, that both meet the promise are equal
   pub answered-once : (o p : List ℕ) (a b : Check) (m n : ℕ) → Answered file s z o a m → Answered file s z p b n → (o ≡ p) × (a ≡ b) × (m ≡ n)
-  answered-once o p a b m n (table-refused r) (table-refused q) = (refl, ap Refuse (refused-once _ _ r q), refl)
-  answered-once o p a b m n (table-refused r) (too-short t l) = absurd (not-both _ _ t r)
-  answered-once o p a b m n (table-refused r) (written t l) = absurd (not-both _ _ t r)
-  answered-once o p a b m n (too-short t l) (table-refused r) = absurd (not-both _ _ t r)
-  answered-once o p a b m n (too-short t l) (too-short u k) = rw (same-widest _ _ t u) (refl, refl, refl)
-  answered-once o p a b m n (too-short {Γ = Γ} t l) (written {Γ = Δ} u k) = let e : Γ ≡ Δ = same-widest _ _ t u in absurd (omega (arith, rw e at l))
-  answered-once o p a b m n (written t l) (table-refused r) = absurd (not-both _ _ t r)
-  answered-once o p a b m n (written {Γ = Γ} t l) (too-short {Γ = Δ} u k) = let e : Γ ≡ Δ = same-widest _ _ t u in absurd (omega (arith, rw e at l))
-  answered-once o p a b m n (written t l) (written u k) = rw (same-widest _ _ t u) (refl, refl, refl)
+  answered-once o p a b m n (table-refused r) (table-refused q) = (refl, ap Refuse (refused-once s _ _ r q), refl)
+  answered-once o p a b m n (table-refused r) (too-short t l) = absurd (not-both s _ _ t r)
+  answered-once o p a b m n (table-refused r) (written t l) = absurd (not-both s _ _ t r)
+  answered-once o p a b m n (too-short t l) (table-refused r) = absurd (not-both s _ _ t r)
+  answered-once o p a b m n (too-short t l) (too-short u k) = rw (same-widest s _ _ t u) (refl, refl, refl)
+  answered-once o p a b m n (too-short {Γ = Γ} t l) (written {Γ = Δ} u k) = let e : Γ ≡ Δ = same-widest s _ _ t u in absurd (omega (arith, rw e at l))
+  answered-once o p a b m n (written t l) (table-refused r) = absurd (not-both s _ _ t r)
+  answered-once o p a b m n (written {Γ = Γ} t l) (too-short {Γ = Δ} u k) = let e : Γ ≡ Δ = same-widest s _ _ t u in absurd (omega (arith, rw e at l))
+  answered-once o p a b m n (written t l) (written u k) = rw (same-widest s _ _ t u) (refl, refl, refl)

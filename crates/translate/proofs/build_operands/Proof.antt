@@ -1,7 +1,7 @@
 -- `translate::build_operands` meets its contract. Assumes nothing.
 use Prim.Native.Nat.{ℕ, _-_, _<_}
 use Rattle.translate.proofs.Writing.{done-nothing, ready-as}
-use Rattle.translate.proofs.Tabled.{step-known}
+use Rattle.free_symbols.proofs.Tabled.{step-known}
 use Rattle.translate.proofs.StepLaws.{none-built, one-built, two-built, first-there, second-there}
 use Rattle.rendering.specs.Judge.{Meaning}
 use mathlib.Core.List.{List}

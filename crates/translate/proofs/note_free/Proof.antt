@@ -2,7 +2,7 @@
 use Rattle.translate.proofs.Marking.{freeTo, free-none, free-more, free-all}
 use Rattle.translate.proofs.HeldLaws.{held-none}
 use Rattle.translate.specs.Registers.{HeldSymbols}
-use Rattle.translate.specs.Stepwise.{boundIn}
+use Rattle.free_symbols.specs.Free.{boundIn}
 use Rattle.rendering.specs.Judge.{symbol}
 use lib.ListN.{length}
 use Rattle.table_layout.specs.Layout.{symbols as symbolsOf}

@@ -1,6 +1,7 @@
 -- `translate::put_statements` meets its contract. Assumes nothing.
 use Rattle.translate.proofs.Starting.{start-ready, whole-made}
 use Rattle.marks.specs.Put.{blank}
+use Rattle.free_symbols.proofs.BoundLaws.{marked-right}
 use Prim.Native.Nat.{_-_}
 use mathlib.Core.Path.{refl}
 use borrow.Author.Needs.{needs}
@@ -8,12 +9,13 @@ use Rattle.translate.proofs.put_statements.Statement.{statement}
 use Rattle.translate.proofs.put_statements.Tie as tie
 
 mark-bound-requires : tie.Need-mark-bound-requires
-unfolding blank
-mark-bound-requires c κs = (c .before .before .before .pre .0, refl)
+mark-bound-requires c κs = search needs
 
 note-free-requires : tie.Need-note-free-requires
 unfolding blank
-note-free-requires c κs = (c .before .before .mark-bound .ensures, refl)
+note-free-requires c κs =
+    let z = c .before .before .before .before .before .before in
+    (marked-right (z .args .s .now) (z .pre .0) (c .before .before .mark-bound .ensures), refl)
 
 write-steps-requires : tie.Need-write-steps-requires
 unfolding blank

@@ -1,6 +1,6 @@
 -- `translate::write_step` meets its contract. Assumes nothing.
 use Rattle.translate.proofs.StepWriting.{operands-ready, operands-fit, states-room, few, step-done}
-use Rattle.translate.proofs.Tabled.{step-known}
+use Rattle.free_symbols.proofs.Tabled.{step-known}
 use Rattle.translate.specs.Stepwise.{operandsBuilt}
 use Rattle.rendering.specs.Judge.{Meaning}
 use Prim.Native.Nat.{ℕ, _-_, _*_}

@@ -1,33 +1,28 @@
--- What numbers 1 to 9 leave of a table, as far as its translation needs it. Assumes that 1 to 9 pass.
-use mathlib.Core.Path.{_≡_, refl, sym, ap, _∙_}
-use mathlib.Core.Bool.{Bool, true, false}
-use mathlib.Core.Logic.{_⊎_, inl, inr}
-use mathlib.Core.List.{List, [], _∷_}
+-- What numbers 1 to 9 leave of a table, as far as its translation and its judge need it. Assumes that 1 to 9 pass.
+use mathlib.Core.Path.{_≡_, refl, _∙_}
+use mathlib.Core.List.{List}
 use Prim.Native.Nat.{ℕ, zero, suc, _+_, _<_, _≤_}
 use native.Mathlib.Omega.{arith}
 use lib.Dec.{leb}
-use lib.ListN.{length, getD}
 use borrow.Author.Tests.{leb-true}
 use Rattle.base.specs.Bytes.{byte}
 use Rattle.base.specs.Pick.{both}
 use Rattle.base.proofs.BothLaws.{both-left, both-right}
 use Rattle.answers.specs.Ladder.{least}
 use Rattle.answers.specs.declared.Check.the-variants.{Pass}
-use Rattle.codes.specs.Rows.{cell, limitsOf, atomKinds}
-use Rattle.opening.specs.Opening.{version}
+use Rattle.codes.specs.Rows.{cell}
 use Rattle.entries.specs.Fields.{code, role}
 use Rattle.table_layout.specs.Layout.{symbols, terms, steps, termsAt, stepsAt, termField, termRole, stepField, stepRole, countsOk}
 use Rattle.table.specs.Faults.{tableRungs}
-use Rattle.calculus.specs.Signature.{Two, pairing, seal}
-use Rattle.calculus.specs.Terms.{build2, Act}
-use Rattle.calculus.specs.Tables.{Entry, leafEntry, kindEntry, entryAt}
-use Rattle.calculus.specs.Version1.{Seal1, encryption, signature1}
-use Rattle.decoded.specs.Table.{entryOf, actOf, termAt, stepAt, tableOf}
+use Rattle.calculus.specs.Terms.{build2}
+use Rattle.calculus.specs.Tables.{leafEntry, kindEntry, entryAt}
+use Rattle.calculus.specs.Version1.{signature1}
+use Rattle.decoded.specs.Table.{entryOf, actOf, termAt, stepAt}
 use Rattle.decoded.proofs.Passed.{table-passed}
 use Rattle.decoded.proofs.Ranges.{term-code, term-field, step-code, step-field}
 use Rattle.decoded.proofs.Shapes.{step-role}
 use Rattle.decoded.proofs.Holding.{entry-at}
-use Rattle.translate.specs.Stepwise.{entriesOf, kindOf}
+use Rattle.free_symbols.specs.Entries.{entriesOf, kindOf}
 
 pub term-role : (s : List ℕ) (i op j : ℕ) → code s 0 (termsAt s) i ≡ op → termRole s i j ≡ cell 0 op (j + 1)
 unfolding role

@@ -1,0 +1,3 @@
+-- Laws of the judge.
+pub mod Stages
+pub mod Exact

@@ -1,0 +1,46 @@
+-- What the judge answers, in the words of the meaning: the table is refused, the list is refused by itself, or the list is judged
+-- against the table with its widest types. Assumes nothing: these are definitions.
+use mathlib.Core.Path.{_≡_}
+use mathlib.Core.List.{List}
+use Prim.Native.Nat.{ℕ}
+use Rattle.answers.specs.Ladder.{least}
+use Rattle.answers.specs.declared.Refusal.{Refusal}
+use Rattle.answers.specs.declared.Check.{Check}
+use Rattle.answers.specs.declared.Check.the-variants.{Pass, Refuse}
+use Rattle.table_layout.specs.Layout.{symbols}
+use Rattle.table.specs.Faults.{tableRungs}
+use Rattle.list.specs.Faults.{listRungs}
+use Rattle.calculus.specs.Figure2.{Env}
+use Rattle.calculus.specs.Version1.{signature1}
+use Rattle.rendering.specs.Rendering.{halves}
+use Rattle.rendering.specs.Judge.{Verdict, accepted, notDue, unfinished, judge}
+use Rattle.rendering.specs.Lists.{StatementList, Answer, typesDiffer, judged, Answered}
+use Rattle.decoded.specs.Table.{tableOf}
+use Rattle.decoded_list.specs.Bytes.{listBytes}
+use Rattle.decoded_list.specs.Statements.{statementsOf}
+use Rattle.compiled.specs.Compiled.{freeCount}
+use Rattle.type_lists.specs.Lists.{typesTo}
+use Rattle.type_service.specs.Services.{refusal, IsWidest, TableRefused}
+
+-- document 01's number of a verdict, with file and place
+unfoldable pub verdictCheck : Verdict → Check
+verdictCheck accepted = Pass
+verdictCheck (notDue i) = Refuse (refusal 12 1 i)
+verdictCheck (unfinished k) = Refuse (refusal 13 1 k)
+
+-- and of an answer
+unfoldable pub answerCheck : Answer → Check
+answerCheck (typesDiffer i) = Refuse (refusal 11 1 i)
+answerCheck (judged v) = verdictCheck v
+
+-- the verdict on the statements of a list without faults 1 to 5 was given
+pub record VerdictGiven (t l : List ℕ) (r : Check) : Type 0 where
+  pub given : least (tableRungs t) ≡ Pass → least (listRungs l (freeCount t)) ≡ Pass → r ≡ verdictCheck (judge signature1 halves (tableOf t) (statementsOf l))
+
+-- the answer: a refusal of the table; a refusal of the list by itself; or what the list m is, whose file l is, beside the table and its
+-- widest types: `Answered` says when it is accepted, and what 11, 12 and 13 and their places mean
+pub data Judged (t l : List ℕ) : Check → Type 0 where
+  table-refused : {x : Refusal} → TableRefused t x → Judged t l (Refuse x)
+  list-refused : {Γ : Env signature1} {x : Refusal} → IsWidest t Γ → least (listRungs l (freeCount t)) ≡ Refuse x → Judged t l (Refuse x)
+  list-judged : {Γ : Env signature1} {m : StatementList signature1} {a : Answer} → IsWidest t Γ → least (listRungs l (freeCount t)) ≡ Pass → l ≡ listBytes m
+      → Answered signature1 halves (tableOf t) (typesTo Γ (symbols t)) m a → Judged t l (answerCheck a)

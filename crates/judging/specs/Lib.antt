@@ -1,0 +1,4 @@
+pub mod Meanings
+pub mod Due
+pub mod Turns
+pub mod Verdicts
