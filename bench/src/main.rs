@@ -5,6 +5,7 @@
 //! A further service is one further module with its `rows`, and its line in `SERVICES`.
 
 mod inputs;
+mod judge;
 mod measure;
 mod readers;
 mod tables;
@@ -21,6 +22,7 @@ const SERVICES: &[(&str, fn() -> Vec<Row>)] = &[
     ("type_of", readers::type_of),
     ("type", tables::type_table),
     ("compile", tables::compile),
+    ("judge", judge::rows),
 ];
 
 fn main() -> ExitCode {

@@ -1,9 +1,10 @@
--- How an exported service that writes to a lent buffer answers. Assumes nothing: these are definitions.
+-- How an exported service answers. Assumes nothing: these are definitions.
 use mathlib.Core.Path.{_≡_}
 use mathlib.Core.List.{List}
 use Prim.Native.Nat.{ℕ, _≤_, _<_}
 use lib.ListN.{length}
 use Rattle.answers.specs.declared.Check.{Check}
+use Rattle.judge_service.specs.Judged.{Judged}
 use Rattle.exports.specs.Given.{Given}
 use Rattle.exports.specs.Entries.{entriesOf}
 
@@ -12,3 +13,9 @@ use Rattle.exports.specs.Entries.{entriesOf}
 pub record Served (A : List ℕ → Check → ℕ → Type 0) (z o given gives : List ℕ) (r : ℕ) : Type 0 where
   pub short : length given < 8 → (r ≡ 255) × (o ≡ z) × (gives ≡ given)
   pub long : 8 ≤ length given → (a : Check) × (n : ℕ) × A o a n × Given given gives r (entriesOf a n 0 0)
+
+-- the judge: the eight entries say its refusal, or none
+pub record JudgeServed (t l given gives : List ℕ) (r : ℕ) : Type 0 where
+  pub verdict : Check
+  pub is-judged : Judged t l verdict
+  pub entries : Given given gives r (entriesOf verdict 0 0 0)

@@ -9,7 +9,7 @@ ghost use Rattle.base.specs.Pick.{pick};
 ghost use Rattle.type_service.specs.Services.{Answered, typesFile};
 ghost use Rattle.compile_service.specs.Files.{listFile};
 ghost use Rattle.exports.specs.Given.{Given};
-ghost use Rattle.exports.specs.Served.{Served};
+ghost use Rattle.exports.specs.Served.{Served, JudgeServed};
 ghost use Rattle.exports.specs.Entries.{entriesOf, tableEntries, listEntries, traceEntries, typeOfEntries};
 
 // Gives the entries, where there is room for them.
@@ -112,6 +112,15 @@ pub extern "C" fn mirvashol_compile(table: &[u8], out: &mut [u8], answer: &mut [
     let w = compile_service::compile(table, out);
     let check = w.check;
     give_check(answer, check, w.bytes as u64, 0, 0)
+}
+
+// Judges a list against a table: a refusal, or none where the list is accepted.
+#[no_mangle]
+pub extern "C" fn mirvashol_judge(table: &[u8], list: &[u8], answer: &mut [u64]) -> u8
+    ensures { λ r. ⌜ JudgeServed (now (table .entry)) (now (list .entry)) (now (answer .entry)) (now (answer .exit)) r ⌝ }
+{
+    let check = judge_service::judge_list(table, list);
+    give_check(answer, check, 0, 0, 0)
 }
 
 // A number of free symbols in 16 bits.

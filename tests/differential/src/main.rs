@@ -12,6 +12,7 @@ mod check_trace;
 mod compare;
 mod compile;
 mod inputs;
+mod judge;
 mod lent;
 mod report;
 mod room;
@@ -33,6 +34,7 @@ const SERVICES: &[Service] = &[
     type_of::SERVICE,
     type_table::SERVICE,
     compile::SERVICE,
+    judge::SERVICE,
 ];
 
 fn main() -> ExitCode {
