@@ -10,10 +10,12 @@ use native.Mathlib.Omega.{arith}
 use lib.ListN.{length, take, drop, length-append, length-drop, length-take}
 use borrow.Rule.Slice.PartMut.{putMid}
 use Rattle.answers.specs.declared.Refusal.{Refusal}
+use Rattle.answers.specs.declared.Check.{Check}
+use Rattle.answers.specs.declared.Check.the-variants.{Pass, Refuse}
 use Rattle.buffers.specs.Over.{over, overIf}
 use Rattle.buffers.proofs.Parts.{part-from}
 use Rattle.buffers.proofs.OverLaws.{over-none, over-fits, over-lent, over-length, lent-length}
-use Rattle.lines.specs.Lines.{Decimal, Appended, NumberPut, refused, lineOf, LineOf, LinePut}
+use Rattle.lines.specs.Lines.{Decimal, Appended, NumberPut, refused, lineOf, LineOf, LinePut, acceptedLine, CheckPut}
 
 -- ── A number of 64 bits has at most 20 digits ──
 
@@ -100,3 +102,16 @@ module _ (x : Refusal) (z o₁ o₂ o₃ o₄ o₅ o₆ o₇ : List ℕ) (r₁ r
 
 pub no-line : (x : Refusal) (z : List ℕ) → length z < 71 → LinePut x z z 0
 no-line x z l = record { inside = omega arith; counted = counted 0 z (omega arith); put = λ h. absurd (omega arith) }
+
+-- ── The line of a check ──
+
+pub refused-put : (a : Check) (x : Refusal) (z o : List ℕ) (r : ℕ) → a ≡ Refuse x → LinePut x z o r → CheckPut a z o r
+refused-put a x z o r e p = rw e (record { inside = p .inside; counted = p .counted; put = λ l. p .put l })
+
+pub nothing-put : (a : Check) (z : List ℕ) → length z < 71 → CheckPut a z z 0
+nothing-put a z l = record { inside = omega arith; counted = counted 0 z (omega arith); put = λ h. absurd (omega arith) }
+
+pub accepted-put : (a : Check) (z o : List ℕ) (r : ℕ) → a ≡ Pass → 71 ≤ length z → Appended acceptedLine 0 z o r → CheckPut a z o r
+accepted-put a z o r e l p =
+    let i : r ≤ length o = omega (arith, p .ends, p .kept) in
+    rw e (record { inside = i; counted = counted r o i; put = λ h. (acceptedLine, refl, p .ends, p .wrote [] z refl (over-none z)) })

@@ -5,6 +5,8 @@ use Prim.Native.Nat.{ℕ, _+_, _≤_}
 use lib.ListN.{length, take}
 use Rattle.io.specs.Digits.{digits, Fewest}
 use Rattle.answers.specs.declared.Refusal.{Refusal}
+use Rattle.answers.specs.declared.Check.{Check}
+use Rattle.answers.specs.declared.Check.the-variants.{Pass, Refuse}
 use Rattle.buffers.specs.Over.{over}
 
 -- the text t is n in decimal, with as few digits as it takes
@@ -49,3 +51,18 @@ pub record LinePut (x : Refusal) (z o : List ℕ) (r : ℕ) : Type 0 where
   pub inside : r ≤ length o
   pub counted : r ≡ length (take r o)
   pub put : 71 ≤ length z → (line : List ℕ) × LineOf x line × (r ≡ length line) × (o ≡ over line z)
+
+-- `accepted` and a line feed, in ASCII
+abbrev pub acceptedLine : List ℕ
+acceptedLine = 97 ∷ 99 ∷ 99 ∷ 101 ∷ 112 ∷ 116 ∷ 101 ∷ 100 ∷ 10 ∷ []
+
+-- the line of a check
+abbrev pub CheckLine : Check → List ℕ → Type 0
+CheckLine Pass line = line ≡ acceptedLine
+CheckLine (Refuse x) line = LineOf x line
+
+-- it was written at the start of z, if z is long enough, and r is its length
+pub record CheckPut (a : Check) (z o : List ℕ) (r : ℕ) : Type 0 where
+  pub inside : r ≤ length o
+  pub counted : r ≡ length (take r o)
+  pub put : 71 ≤ length z → (line : List ℕ) × CheckLine a line × (r ≡ length line) × (o ≡ over line z)

@@ -1,10 +1,14 @@
-// What the programs write: a refusal as one line, `refused`, number, file, place in decimal with single spaces and a final line feed.
+// What the programs write: a refusal as one line, `refused`, number, file, place in decimal with single spaces and a final line feed;
+// or `accepted`.
+use answers::Check;
 use answers::Refusal;
 ghost use Prim.Native.Nat.{_+_, _≤_};
 ghost use lib.ListN.{length};
-ghost use Rattle.lines.specs.Lines.{Appended, NumberPut, LinePut};
+ghost use Rattle.lines.specs.Lines.{Appended, NumberPut, LinePut, CheckPut};
 
 const REFUSED: [u8; 8] = *b"refused ";
+
+const ACCEPTED: [u8; 9] = *b"accepted\n";
 
 const SPACE: [u8; 1] = *b" ";
 
@@ -43,4 +47,17 @@ pub fn put_refusal(out: &mut [u8], x: Refusal) -> usize
     let e = put_text(out, d, &SPACE);
     let f = put_number(out, e, x.place);
     put_text(out, f, &END)
+}
+
+// The line of a check at the start of a buffer of 71 bytes or more, and its length.
+pub fn put_check(out: &mut [u8], check: Check) -> usize
+    ensures { λ r. ⌜ CheckPut check (now (out .entry)) (now (out .exit)) r ⌝ }
+{
+    let Check::Refuse(x) = check else {
+        if out.len() < 71 {
+            return 0;
+        }
+        return put_text(out, 0, &ACCEPTED);
+    };
+    put_refusal(out, x)
 }
