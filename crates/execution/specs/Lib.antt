@@ -1,0 +1,4 @@
+pub mod Registers
+pub mod Messages
+pub mod Types
+pub mod Execution

@@ -1,0 +1,2 @@
+-- Laws of the visible-type test.
+pub mod SeenLaws
