@@ -1,0 +1,2 @@
+-- Laws of the two counts.
+pub mod RoomLaws

@@ -1,0 +1,2 @@
+-- Laws of the run service.
+pub mod Stages

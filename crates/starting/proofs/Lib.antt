@@ -1,0 +1,3 @@
+-- Laws of number 14.
+pub mod StartLaws
+pub mod Once
