@@ -8,6 +8,7 @@ mod inputs;
 mod judge;
 mod measure;
 mod readers;
+mod run;
 mod tables;
 
 use std::process::ExitCode;
@@ -23,6 +24,7 @@ const SERVICES: &[(&str, fn() -> Vec<Row>)] = &[
     ("type", tables::type_table),
     ("compile", tables::compile),
     ("judge", judge::rows),
+    ("run", run::rows),
 ];
 
 fn main() -> ExitCode {

@@ -23,6 +23,6 @@ laid (x0 ∷ x1 ∷ x2 ∷ x3 ∷ x4 ∷ x5 ∷ x6 ∷ x7 ∷ r) a b c d e f g h
 pub given-short : (z : List ℕ) (es : List ℕ) → length z < 8 → Given z z 255 es
 given-short z es h = record { short = λ k. (refl, refl); long = λ k. absurd (omega arith) }
 
-pub given-long : (z : List ℕ) (a b c d e f : ℕ) → 8 ≤ length z
-    → Given z (set (set (set (set (set (set (set (set z 0 a) 1 b) 2 c) 3 d) 4 e) 5 f) 6 0) 7 0) a (a ∷ b ∷ c ∷ d ∷ e ∷ f ∷ 0 ∷ 0 ∷ [])
-given-long z a b c d e f h = record { short = λ k. absurd (omega arith); long = λ k. (refl, laid z a b c d e f 0 0 h) }
+pub given-long : (z : List ℕ) (a b c d e f g h : ℕ) → 8 ≤ length z
+    → Given z (set (set (set (set (set (set (set (set z 0 a) 1 b) 2 c) 3 d) 4 e) 5 f) 6 g) 7 h) a (a ∷ b ∷ c ∷ d ∷ e ∷ f ∷ g ∷ h ∷ [])
+given-long z a b c d e f g h l = record { short = λ k. absurd (omega arith); long = λ k. (refl, laid z a b c d e f g h l) }

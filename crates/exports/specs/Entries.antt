@@ -14,6 +14,7 @@ use Rattle.list.specs.Faults.{listRungs}
 use Rattle.list.specs.TypeOf.{partOf}
 use Rattle.list.specs.declared.Part.{Part}
 use Rattle.list.specs.declared.Part.the-variants.{At, Nothing}
+use Rattle.machine.specs.declared.Ran.{Ran}
 use Rattle.trace.specs.Layout as trace
 use Rattle.trace.specs.Faults.{traceRungs}
 
@@ -43,3 +44,8 @@ partEntries Nothing = 0 ∷ 0 ∷ 0 ∷ 0 ∷ 0 ∷ 0 ∷ 0 ∷ 0 ∷ []
 
 unfoldable pub typeOfEntries : List ℕ → ℕ → List ℕ
 typeOfEntries s x = partEntries (partOf s x)
+
+-- a run: ending, statement index, supplies used, messages logged, values in the table
+abbrev pub runEntries : Check → Ran → List ℕ
+runEntries Pass r = 0 ∷ 0 ∷ 0 ∷ r .ending ∷ r .place ∷ r .used ∷ r .logged ∷ r .count ∷ []
+runEntries (Refuse x) r = x .number ∷ x .file ∷ x .place ∷ 0 ∷ 0 ∷ 0 ∷ 0 ∷ 0 ∷ []

@@ -4,9 +4,10 @@ use mathlib.Core.List.{List}
 use Prim.Native.Nat.{ℕ, _≤_, _<_}
 use lib.ListN.{length}
 use Rattle.answers.specs.declared.Check.{Check}
+use Rattle.machine.specs.declared.Ran.{Ran}
 use Rattle.judge_service.specs.Judged.{Judged}
 use Rattle.exports.specs.Given.{Given}
-use Rattle.exports.specs.Entries.{entriesOf}
+use Rattle.exports.specs.Entries.{entriesOf, runEntries}
 
 -- A is the service's own promise, of what the buffer z has become, of the refusal, and of the bytes written; the eight entries say
 -- just that. An array of fewer than eight entries gets 255, and nothing is changed
@@ -19,3 +20,8 @@ pub record JudgeServed (t l given gives : List ℕ) (r : ℕ) : Type 0 where
   pub verdict : Check
   pub is-judged : Judged t l verdict
   pub entries : Given given gives r (entriesOf verdict 0 0 0)
+
+-- the run: A is the service's own promise, of what the buffers z and y have become, of the refusal, and of how the run went
+pub record RunServed (A : List ℕ → List ℕ → Check → Ran → Type 0) (z v y o given gives : List ℕ) (r : ℕ) : Type 0 where
+  pub short : length given < 8 → (r ≡ 255) × (v ≡ z) × (o ≡ y) × (gives ≡ given)
+  pub long : 8 ≤ length given → (a : Check) × (n : Ran) × A v o a n × Given given gives r (runEntries a n)

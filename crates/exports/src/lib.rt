@@ -2,19 +2,31 @@
 // Each answers the refusal number, 0 for none, and gives eight entries: number, file, place, then what was read.
 use answers::Check;
 use list::Part;
+use machine::Ran;
 ghost use mathlib.Core.List.{[], _∷_};
 ghost use mathlib.Core.Path.{_≡_};
 ghost use lib.Dec.{leb};
 ghost use Rattle.base.specs.Pick.{pick};
 ghost use Rattle.type_service.specs.Services.{Answered, typesFile};
 ghost use Rattle.compile_service.specs.Files.{listFile};
+ghost use Rattle.run_service.specs.Runs.{RunAnswered};
 ghost use Rattle.exports.specs.Given.{Given};
-ghost use Rattle.exports.specs.Served.{Served, JudgeServed};
-ghost use Rattle.exports.specs.Entries.{entriesOf, tableEntries, listEntries, traceEntries, typeOfEntries};
+ghost use Rattle.exports.specs.Served.{Served, JudgeServed, RunServed};
+ghost use Rattle.exports.specs.Entries.{entriesOf, tableEntries, listEntries, traceEntries, typeOfEntries, runEntries};
 
 // Gives the entries, where there is room for them.
-fn give(answer: &mut [u64], number: u8, file: u8, place: u64, a: u64, b: u64, c: u64) -> u8
-    ensures { λ r. ⌜ Given (now (answer .entry)) (now (answer .exit)) r (number ∷ file ∷ place ∷ a ∷ b ∷ c ∷ 0 ∷ 0 ∷ []) ⌝ }
+fn give(
+    answer: &mut [u64],
+    number: u8,
+    file: u8,
+    place: u64,
+    a: u64,
+    b: u64,
+    c: u64,
+    d: u64,
+    e: u64,
+) -> u8
+    ensures { λ r. ⌜ Given (now (answer .entry)) (now (answer .exit)) r (number ∷ file ∷ place ∷ a ∷ b ∷ c ∷ d ∷ e ∷ []) ⌝ }
 {
     if answer.len() < 8 {
         return 255;
@@ -25,8 +37,8 @@ fn give(answer: &mut [u64], number: u8, file: u8, place: u64, a: u64, b: u64, c:
     answer[3] = a;
     answer[4] = b;
     answer[5] = c;
-    answer[6] = 0;
-    answer[7] = 0;
+    answer[6] = d;
+    answer[7] = e;
     number
 }
 
@@ -35,9 +47,9 @@ fn give_check(answer: &mut [u64], check: Check, a: u64, b: u64, c: u64) -> u8
     ensures { λ r. ⌜ Given (now (answer .entry)) (now (answer .exit)) r (entriesOf check a b c) ⌝ }
 {
     let Check::Refuse(x) = check else {
-        return give(answer, 0, 0, 0, a, b, c);
+        return give(answer, 0, 0, 0, a, b, c, 0, 0);
     };
-    give(answer, x.number, x.file, x.place, 0, 0, 0)
+    give(answer, x.number, x.file, x.place, 0, 0, 0, 0, 0)
 }
 
 // Reads a table: numbers 1 to 9, or S, T and P.
@@ -83,9 +95,9 @@ pub extern "C" fn mirvashol_type_of(list: &[u8], symbol: usize, answer: &mut [u6
 {
     let part = list::type_part(list, symbol);
     let Part::At(start, count) = part else {
-        return give(answer, 0, 0, 0, 0, 0, 0);
+        return give(answer, 0, 0, 0, 0, 0, 0, 0, 0);
     };
-    give(answer, 0, 0, 0, start as u64, count as u64, 0)
+    give(answer, 0, 0, 0, start as u64, count as u64, 0, 0, 0)
 }
 
 // The widest types of a table: a refusal, or the bytes written.
@@ -121,6 +133,50 @@ pub extern "C" fn mirvashol_judge(table: &[u8], list: &[u8], answer: &mut [u64])
 {
     let check = judge_service::judge_list(table, list);
     give_check(answer, check, 0, 0, 0)
+}
+
+// Runs a list on a trace: a refusal; or ending, statement index, supplies used, messages logged, and values in the table.
+#[no_mangle]
+pub extern "C" fn mirvashol_run(
+    table: &[u8],
+    list: &[u8],
+    trace: &[u8],
+    values: &mut [u8],
+    log: &mut [u8],
+    answer: &mut [u64],
+) -> u8
+    ensures { λ r. ⌜ RunServed (RunAnswered (now (table .entry)) (now (list .entry)) (now (trace .entry)) (now (values .entry)) (now (log .entry))) (now (values .entry)) (now (values .exit)) (now (log .entry)) (now (log .exit)) (now (answer .entry)) (now (answer .exit)) r ⌝ }
+{
+    if answer.len() < 8 {
+        return 255;
+    }
+    let outcome = run_service::run(table, list, trace, values, log);
+    let check = outcome.check;
+    let ran = outcome.ran;
+    give_run(answer, check, ran)
+}
+
+// Gives what a run answers.
+fn give_run(answer: &mut [u64], check: Check, ran: Ran) -> u8
+    ensures { λ r. ⌜ Given (now (answer .entry)) (now (answer .exit)) r (runEntries check ran) ⌝ }
+{
+    let Check::Refuse(x) = check else {
+        let a = ran.ending as u64;
+        let b = ran.place as u64;
+        let c = ran.used as u64;
+        return give(
+            answer,
+            0,
+            0,
+            0,
+            a,
+            b,
+            c,
+            ran.logged as u64,
+            ran.count as u64,
+        );
+    };
+    give(answer, x.number, x.file, x.place, 0, 0, 0, 0, 0)
 }
 
 // A number of free symbols in 16 bits.

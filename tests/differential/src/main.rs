@@ -16,6 +16,7 @@ mod judge;
 mod lent;
 mod report;
 mod room;
+mod run;
 mod service;
 mod type_of;
 mod type_table;
@@ -35,6 +36,7 @@ const SERVICES: &[Service] = &[
     type_table::SERVICE,
     compile::SERVICE,
     judge::SERVICE,
+    run::SERVICE,
 ];
 
 fn main() -> ExitCode {

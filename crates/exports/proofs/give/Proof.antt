@@ -37,7 +37,7 @@ same-length : tie.Need-same-length
 same-length c = search needs
 
 returns-2 : tie.Need-returns-2
-returns-2 c = given-long _ _ _ _ _ _ _ (c .if1 .left)
+returns-2 c = given-long _ _ _ _ _ _ _ _ _ (c .if1 .left)
 
 pub give-spec : {M : Type 1} → statement M
 give-spec =
