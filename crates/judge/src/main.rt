@@ -23,23 +23,12 @@ fn judge(table_file: i32, list_file: i32) {
     io::write_all(STDOUT_FILENO, &out[..k]);
 }
 
-// Opens the file that argument i names.
-fn open_argument(i: usize) -> i32 {
-    let mut path = io::buffer();
-    let n = os::arg(i, &mut path);
-    let file = os::open_read(&path[..n]);
-    if file < 0 {
-        os::fail(&path[..n]);
-    }
-    file
-}
-
 fn main() {
-    let table = open_argument(1);
+    let table = arguments::open(1);
     if table < 0 {
         return;
     }
-    let list = open_argument(2);
+    let list = arguments::open(2);
     if list < 0 {
         return;
     }
