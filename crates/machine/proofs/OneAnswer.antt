@@ -24,7 +24,8 @@ same-answer r q a b c d e = go (q .ending) (q .place) (q .used) (q .logged) (q .
     go : (v w x y z : ℕ) → r .ending ≡ v → r .place ≡ w → r .used ≡ x → r .logged ≡ y → r .count ≡ z → r ≡ record { ending = v; place = w; used = x; logged = y; count = z }
     go v w x y z a b c d e = rw (← a, ← b, ← c, ← d, ← e)
 
-told-once : {tr z v v′ y o o′ : List ℕ} {R : Result ℕ (List (Entry signature1 Atom))} {r q : Ran} → Told tr z v y o R r → Told tr z v′ y o′ R q → (r ≡ q) × (v ≡ v′) × (o ≡ o′)
+-- of one run there is one telling
+pub told-once : {tr z v v′ y o o′ : List ℕ} {R : Result ℕ (List (Entry signature1 Atom))} {r q : Ran} → Told tr z v y o R r → Told tr z v′ y o′ R q → (r ≡ q) × (v ≡ v′) × (o ≡ o′)
 told-once {r = r} {q = q} a b = (
   same-answer r q (a .ending ∙ sym (b .ending)) (a .place ∙ sym (b .place)) (a .used ∙ sym (b .used)) (a .logged ∙ sym (b .logged)) (a .count ∙ sym (b .count)),
   a .values-written ∙ sym (b .values-written),
