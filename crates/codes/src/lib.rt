@@ -13,6 +13,8 @@ pub const LIST: u8 = 1;
 
 pub const TRACE: u8 = 2;
 
+pub const BUFFER: u8 = 3;
+
 // The mark of each file, and the bytes of its header.
 const MARKS: [u8; 9] = *b"SPTSPLSPX";
 

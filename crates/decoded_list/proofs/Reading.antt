@@ -1,7 +1,7 @@
 -- A list that passes 1 to 5, read and written again, is the same file: it is the file of a list. Assumes that its elements are bytes:
 -- a low byte of N above 255 would be read as more.
 use mathlib.Core.Path.{_≡_, refl, sym, ap, _∙_}
-use mathlib.Core.List.{List, [], _∷_, _++_, append-assoc, append-nil}
+use mathlib.Core.List.{List, [], _∷_, _++_, append-nil}
 use Prim.Native.Nat.{ℕ, zero, suc, _+_, _/_, _%_, _≤_, _<_}
 use native.Mathlib.Decide.{decLt}
 use native.Mathlib.Omega.{arith}
@@ -16,7 +16,7 @@ use Rattle.answers.specs.Ladder.{least}
 use Rattle.answers.specs.declared.Check.the-variants.{Pass}
 use Rattle.entries.specs.Words.{Bytes}
 use Rattle.entries.specs.Tiling.{listed, joined, stretch, numberBytes}
-use Rattle.entries.proofs.Tiling.{listed-length, listed-add, word-bytes}
+use Rattle.entries.proofs.Tiling.{listed-length, listed-add, word-bytes, joined-append}
 use Rattle.opening.specs.Opening.{marked, version}
 use Rattle.types.specs.Types.{Message}
 use Rattle.types.specs.Version1.{T, bytes}
@@ -32,12 +32,6 @@ use Rattle.decoded_list.specs.Decoded.{Decoded}
 use Rattle.decoded_list.proofs.Codes.{entry-in-order, entry-written}
 
 -- ── Things written one after the other ──
-
--- two lists of things
-joined-append : {A : Type 0} (g : A → List ℕ) (k l : List A) → joined g (k ++ l) ≡ joined g k ++ joined g l
-unfolding joined
-joined-append g [] l = refl
-joined-append g (x ∷ k) l = rw (joined-append g k l) (sym (append-assoc (g x) (joined g k) (joined g l)))
 
 -- things as they are listed, and as they tile
 joined-tiled : {A : Type 0} (g : A → List ℕ) (f : ℕ → A) (h : ℕ → List ℕ) (n : ℕ) → ((k : ℕ) → k < n → g (f k) ≡ h k) → joined g (listed f 0 n) ≡ tiled h n

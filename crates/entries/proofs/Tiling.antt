@@ -1,7 +1,7 @@
 -- Entries of any kind, written again, are the bytes that they were read from. Assumes nothing.
-use mathlib.Core.Path.{_≡_, refl, ap}
+use mathlib.Core.Path.{_≡_, refl, sym, ap}
 use mathlib.Core.Logic.{_⊎_, inl, inr}
-use mathlib.Core.List.{List, [], _∷_, _++_}
+use mathlib.Core.List.{List, [], _∷_, _++_, append-assoc}
 use Prim.Native.Nat.{ℕ, zero, suc, _+_, _*_, _/_, _%_, _<_}
 use native.Mathlib.Omega.{arith}
 use native.Mathlib.Nat.{suc-mul, zero-mul}
@@ -12,6 +12,12 @@ use Rattle.codes.specs.Rows.{fields, fieldBytes, width}
 use Rattle.entries.specs.Fields.{number, placeOf, code, field}
 use Rattle.entries.specs.Words.{Bytes}
 use Rattle.entries.specs.Tiling.{listed, joined, stretch, numberBytes, entryOf, entryBytes}
+
+-- two lists of things, written one after the other
+pub joined-append : {A : Type 0} (g : A → List ℕ) (k l : List A) → joined g (k ++ l) ≡ joined g k ++ joined g l
+unfolding joined
+joined-append g [] l = refl
+joined-append g (x ∷ k) l = rw (joined-append g k l) (sym (append-assoc (g x) (joined g k) (joined g l)))
 
 module _ {ℓ} {A : Type ℓ} (f : ℕ → A) where
   pub listed-length : (i n : ℕ) → length (listed f i n) ≡ n

@@ -89,9 +89,3 @@ passes-message l x values n v h = record {
 pub passes-kept : {l w z : List ℕ} {es : List (Entry signature1 Atom)} {x n v : ℕ} {r : Bool} (As : List T) → TypesAre l As → Kept z es w n → Passes l x w n v r
     → visible signature1 (indexes signature1 es) (typesOf signature1 As x) v ≡ r
 passes-kept As t k p = sym (rw (kept-table k) at (p .passes As t))
-
--- ── Operands ──
-
-pub operand-byte : (l : List ℕ) (base k j : ℕ) → field l 2 base k j ≡ byte l (placeOf 2 base k + 1 + j)
-unfolding field number fieldBytes byte
-operand-byte l base k j = let z : placeOf 2 base k + 1 + j * 1 ≡ placeOf 2 base k + 1 + j = omega arith in rw z

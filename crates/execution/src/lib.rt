@@ -5,7 +5,6 @@
 ghost use mathlib.Core.Path.{_≡_};
 ghost use mathlib.Core.List.{List};
 ghost use Prim.Native.Nat.{ℕ};
-ghost use Rattle.entries.specs.Fields.{field};
 ghost use Rattle.trace.specs.Layout.{supply};
 ghost use Rattle.calculus.specs.Signature.{Two};
 ghost use Rattle.calculus.specs.Terms.{Side, send as sends, receive as receives, fresh as freshens, compare as compares, decrypt as decrypts};
@@ -101,16 +100,6 @@ fn supplied(trace: &[u8], i: u16) -> u16
     ensures { λ r. ⌜ r ≡ supply (now (trace .entry)) i ⌝ }
 {
     trace::supply_at(trace, i) as u16
-}
-
-// Field j of statement k: a register, or a symbol.
-fn operand_at(list: &[u8], base: u32, k: u16, j: u8) -> u8
-    ensures { λ r. ⌜ r ≡ field (now (list .entry)) 2 base k j ⌝ }
-{
-    base::byte_at(
-        list,
-        entries::place_of(codes::STATEMENT, base, k) + 1 + base::wide(j),
-    )
 }
 
 // ── What each statement does ──
@@ -292,9 +281,9 @@ pub fn execute(
 ) -> Step
     ensures { λ r. ⌜ Does (buildsAt (now (list .entry)) base k) (messagesAt (now (list .entry)) base k) (executingAt (now (list .entry)) base k) (now (list .entry)) (now (trace .entry)) (now (values .entry)) (now (values .exit)) (now (log .entry)) (now (log .exit)) (now (registers .entry)) (now (registers .exit)) s r ⌝ }
 {
-    let v = value_in(registers, s.registers, operand_at(list, base, k, 0));
-    let w = value_in(registers, s.registers, operand_at(list, base, k, 1));
-    let x = operand_at(list, base, k, 2);
+    let v = value_in(registers, s.registers, list::operand_at(list, base, k, 0));
+    let w = value_in(registers, s.registers, list::operand_at(list, base, k, 1));
+    let x = list::operand_at(list, base, k, 2);
     let op = entries::code_at(list, codes::STATEMENT, base, k);
     match op {
         0 => send(log, s, v, w),

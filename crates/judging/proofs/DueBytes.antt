@@ -1,19 +1,13 @@
--- What stands past the known codes, and where a statement's fields stand. Assumes nothing.
-use mathlib.Core.Path.{_≡_, refl, ap}
+-- What stands past the known codes. Assumes nothing.
+use mathlib.Core.Path.{_≡_, refl}
 use mathlib.Core.Bool.{Bool, false}
 use mathlib.Core.List.{List}
-use Prim.Native.Nat.{ℕ, zero, suc, _+_, _*_, _≤_, _<_}
+use Prim.Native.Nat.{ℕ, zero, suc, _≤_, _<_}
 use native.Mathlib.Omega.{arith}
 use lib.ListN.{length}
 use Rattle.base.specs.Bytes.{byte}
-use Rattle.codes.specs.Rows.{cell, fieldBytes, width}
-use Rattle.entries.specs.Fields.{field, placeOf, number}
+use Rattle.codes.specs.Rows.{cell}
 use Rattle.judging.specs.Due.{dueOp, operandsDue, newOf}
-
--- the fields of a statement are bytes
-pub statement-field-byte : (s : List ℕ) (base i j : ℕ) → field s 2 base i j ≡ byte s (base + i * 4 + 1 + j)
-unfolding field placeOf number fieldBytes width byte
-statement-field-byte s base i j = ap (byte s) (omega arith)
 
 -- an unknown step makes nothing due
 pub due-none : (op : ℕ) (half : Bool) → 6 ≤ op → dueOp op half ≡ 9

@@ -6,8 +6,7 @@ ghost use mathlib.Core.Bool.{not};
 ghost use Prim.Native.Nat.{_+_, _<_};
 ghost use Rattle.base.specs.Pick.{both};
 ghost use Rattle.base.specs.Search.{first};
-ghost use Rattle.entries.specs.Fields.{code, field};
-ghost use Rattle.table_layout.specs.Layout.{terms, termsAt, stepsAt};
+ghost use Rattle.table_layout.specs.Layout.{terms};
 ghost use Rattle.judging.specs.Meanings.{meantAt, Gives};
 ghost use Rattle.judging.specs.Due.{BindsNext, dueOp, operandsDue, isDue, fitsAt};
 ghost use Rattle.judging.specs.Turns.{foundAs, Next, BuildTurns, SayTurns, Turns, WalksOn};
@@ -38,31 +37,11 @@ pub enum Verdict {
     Unfinished(u8),
 }
 
-// The code of a term, and of a step.
-fn term_code(s: &[u8], i: u8) -> u8
-    ensures { λ r. ⌜ r ≡ code (now (s .entry)) 0 (termsAt (now (s .entry))) i ⌝ }
-{
-    entries::code_at(s, codes::TERM, table_layout::terms_at(s), i as u16)
-}
-
-fn step_code(s: &[u8], k: u8) -> u8
-    ensures { λ r. ⌜ r ≡ code (now (s .entry)) 1 (stepsAt (now (s .entry))) k ⌝ }
-{
-    entries::code_at(s, codes::STEP, table_layout::steps_at(s), k as u16)
-}
-
-// A field of a statement: p, q or s.
-fn operand_at(s: &[u8], base: u32, i: u16, j: u8) -> u8
-    ensures { λ r. ⌜ r ≡ field (now (s .entry)) 2 base i j ⌝ }
-{
-    base::byte_at(s, base as usize + i as usize * 4 + 1 + base::wide(j))
-}
-
 // What term i means.
 fn meant(s: &[u8], i: u8) -> u8
     ensures { λ r. ⌜ r ≡ meantAt (now (s .entry)) i ⌝ }
 {
-    if term_code(s, i) == 0 {
+    if table_layout::term_code(s, i) == 0 {
         return table_layout::term_field(s, i, 0);
     }
     255 - i
@@ -102,7 +81,7 @@ fn fits(s: &[u8], i: u8, kind: u8, p: u8, q: u8) -> bool
 {
     let left = meant(s, table_layout::term_field(s, i, 0)) == p;
     let right = meant(s, table_layout::term_field(s, i, 1)) == q;
-    and(term_code(s, i) == kind, and(left, right))
+    and(table_layout::term_code(s, i) == kind, and(left, right))
 }
 
 // The first such term.
@@ -163,7 +142,7 @@ fn operands_due(s: &[u8], k: u8, op: u8, p: u8, q: u8, x: u8) -> bool
 fn is_due(s: &[u8], k: u8, half: bool, op: u8, p: u8, q: u8, x: u8) -> bool
     ensures { λ r. ⌜ r ≡ isDue (now (s .entry)) k half op p q x ⌝ }
 {
-    let step = step_code(s, k);
+    let step = table_layout::step_code(s, k);
     and(op == due_op(step, half), operands_due(s, k, op, p, q, x))
 }
 
@@ -240,15 +219,15 @@ fn take_turn(
     ensures { λ r. ⌜ Turns (now (table .entry)) (now (list .entry)) base i (now (meanings .entry)) (now (meanings .exit)) registers state r ⌝ }
 {
     let op = entries::code_at(list, codes::STATEMENT, base, i);
-    let p = marks::get(meanings, operand_at(list, base, i, 0));
-    let q = marks::get(meanings, operand_at(list, base, i, 1));
+    let p = marks::get(meanings, list::operand_at(list, base, i, 0));
+    let q = marks::get(meanings, list::operand_at(list, base, i, 1));
     if op == 7 {
         return build(table, 1, p, q, meanings, registers, state);
     }
     if op == 8 {
         return build(table, 2, p, q, meanings, registers, state);
     }
-    let x = operand_at(list, base, i, 2);
+    let x = list::operand_at(list, base, i, 2);
     say(table, op, p, q, x, meanings, registers, state)
 }
 

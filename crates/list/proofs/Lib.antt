@@ -7,3 +7,4 @@ pub mod TypesExact
 pub mod LeastFault
 pub mod SymbolTypes
 pub mod Written
+pub mod Operands

@@ -4,8 +4,8 @@ use answers::Check;
 ghost use mathlib.Core.Path.{_≡_};
 ghost use mathlib.Core.List.{[], _∷_};
 ghost use Prim.Native.Nat.{_+_, _≤_, _<_};
-ghost use lib.ListN.{length};
 ghost use Rattle.answers.specs.Ladder.{least};
+ghost use Rattle.entries.specs.Fields.{field};
 ghost use Rattle.list.specs.Layout.{symbols, statements, pastType, typeAt, statementsAt, countsOk, lengthOk, wants, typeOkAt, gives, statementOkAt};
 ghost use Rattle.list.specs.Faults.{frameRungs, typeRung, typeRungs, statementRung, listRungs};
 ghost use Rattle.list.specs.TypeOf.{typeBytes, partOf};
@@ -131,6 +131,13 @@ pub fn check_types(s: &[u8]) -> Check
         return a;
     };
     walk_types(s)
+}
+
+// Field j of statement i, of those from a base offset on: p, q or s.
+pub fn operand_at(s: &[u8], base: u32, i: u16, j: u8) -> u8
+    ensures { λ r. ⌜ r ≡ field (now (s .entry)) 2 base i j ⌝ }
+{
+    base::byte_at(s, base as usize + i as usize * 4 + 1 + base::wide(j))
 }
 
 // Whether statement i gives a register: 1 or 0.

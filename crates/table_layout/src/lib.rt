@@ -3,7 +3,8 @@ use answers::Check;
 ghost use mathlib.Core.Path.{_≡_};
 ghost use mathlib.Core.List.{[], _∷_};
 ghost use Rattle.answers.specs.Ladder.{least};
-ghost use Rattle.table_layout.specs.Layout.{symbols, terms, steps, termsAt, stepsAt, sort, termField, termRole, stepField, stepRole, countsOk, lengthOk, symbolOk, sortOk, stepInRange, stepOk};
+ghost use Rattle.entries.specs.Fields.{code};
+ghost use Rattle.table_layout.specs.Layout.{symbols, terms, steps, termsAt, stepsAt, sort, termField, termRole, stepField, stepRole, countsOk, lengthOk, sortOk, stepInRange, stepOk};
 ghost use Rattle.table_layout.specs.Faults.{frameRungs, symbolRung, termRung, stepRung, entryRungs};
 
 // The counts: symbols, terms, steps.
@@ -74,6 +75,19 @@ pub fn step_field(s: &[u8], k: u8, j: u8) -> u8
         s,
         steps_at(s) as usize + base::wide(k) * 5 + 1 + base::wide(j),
     )
+}
+
+// The code of term i, and of step k.
+pub fn term_code(s: &[u8], i: u8) -> u8
+    ensures { λ r. ⌜ r ≡ code (now (s .entry)) 0 (termsAt (now (s .entry))) i ⌝ }
+{
+    entries::code_at(s, codes::TERM, terms_at(s), i as u16)
+}
+
+pub fn step_code(s: &[u8], k: u8) -> u8
+    ensures { λ r. ⌜ r ≡ code (now (s .entry)) 1 (stepsAt (now (s .entry))) k ⌝ }
+{
+    entries::code_at(s, codes::STEP, steps_at(s), k as u16)
 }
 
 // Numbers 1 to 4.

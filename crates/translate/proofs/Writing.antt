@@ -13,6 +13,7 @@ use Rattle.calculus.specs.Terms.{Build, build1, build2, Act, send, receive, fre
 use Rattle.calculus.specs.Version1.{encryption, signature1}
 use Rattle.rendering.specs.Judge.{Meaning}
 use Rattle.entries.specs.Tiling.{joined}
+use Rattle.entries.proofs.Tiling.{joined-append}
 use Rattle.decoded_list.specs.Bytes.{statementBytes, statementsBytes}
 use Rattle.translate.specs.Stepwise.{Making, after}
 use Rattle.translate.specs.Registers.{Held, Ready, Done}
@@ -20,9 +21,7 @@ use Rattle.translate.specs.Registers.{Held, Ready, Done}
 -- ── The bytes of statements ──
 
 pub bytes-append : (a b : List (Statement signature1)) → statementsBytes (a ++ b) ≡ statementsBytes a ++ statementsBytes b
-unfolding joined
-bytes-append [] b = refl
-bytes-append (x ∷ a) b = rw (bytes-append a b, append-assoc)
+bytes-append a b = joined-append statementBytes a b
 
 four : (x : Statement signature1) → length (statementBytes x) ≡ 4
 unfolding statementBytes

@@ -4,9 +4,7 @@
 use answers::Check;
 ghost use mathlib.Core.Path.{_≡_};
 ghost use Prim.Native.Nat.{_+_, _*_, _<_, _≤_};
-ghost use lib.Dec.{eqb};
-ghost use lib.ListN.{length, getD};
-ghost use Rattle.base.specs.Pick.{pick, both};
+ghost use lib.ListN.{length};
 ghost use Rattle.answers.specs.Ladder.{least};
 ghost use Rattle.answers.specs.declared.Check.the-variants.{Pass};
 ghost use Rattle.marks.specs.Put.{Put, blank};
@@ -28,19 +26,6 @@ ghost use Rattle.translate.specs.Registers.{HeldSymbols, Ready, SomeRead
 pub struct Added {
     pub statements: u8,
     pub registers: u8,
-}
-
-// The code of a term, and of a step.
-fn term_code(s: &[u8], i: u8) -> u8
-    ensures { λ r. ⌜ r ≡ code (now (s .entry)) 0 (termsAt (now (s .entry))) i ⌝ }
-{
-    entries::code_at(s, codes::TERM, table_layout::terms_at(s), i as u16)
-}
-
-fn step_code(s: &[u8], k: u8) -> u8
-    ensures { λ r. ⌜ r ≡ code (now (s .entry)) 1 (stepsAt (now (s .entry))) k ⌝ }
-{
-    entries::code_at(s, codes::STEP, table_layout::steps_at(s), k as u16)
 }
 
 // Notes the next register at a place; an earlier one stays.
@@ -66,7 +51,7 @@ fn register_of(s: &[u8], i: u8, symbols: &[u8; 256], terms: &[u8; 256], register
 fn held_at(s: &[u8], i: u8, symbols: &[u8; 256], terms: &[u8; 256]) -> u8
     ensures { λ r. ⌜ r ≡ heldAt (now (s .entry)) i (now (symbols .entry)) (now (terms .entry)) ⌝ }
 {
-    if term_code(s, i) == 0 {
+    if table_layout::term_code(s, i) == 0 {
         return marks::get(symbols, table_layout::term_field(s, i, 0));
     }
     marks::get(terms, i)
@@ -76,7 +61,7 @@ fn held_at(s: &[u8], i: u8, symbols: &[u8; 256], terms: &[u8; 256]) -> u8
 fn is_settled(s: &[u8], i: u8, terms: &[u8; 256]) -> bool
     ensures { λ r. ⌜ r ≡ settled (now (s .entry)) i (now (terms .entry)) ⌝ }
 {
-    if term_code(s, i) == 0 {
+    if table_layout::term_code(s, i) == 0 {
         return true;
     }
     marks::get(terms, i) != 0
@@ -109,7 +94,7 @@ fn make_term(
         terms,
         registers,
     );
-    buffers::put_four(out, term_code(s, i) + 6, p, q, 0);
+    buffers::put_four(out, table_layout::term_code(s, i) + 6, p, q, 0);
     note(terms, i, registers);
 }
 
@@ -193,7 +178,7 @@ fn build_operands(
     requires { ⌜ (least (tableRungs (now s)) ≡ Pass) × (k < steps (now s)) × SomeReady (operandsBuilt (now s) k) (now symbols) (now terms) registers (now out) ⌝ }
     ensures { λ r. ⌜ Makes (operandsBuilt (now (s .entry)) k) (now (symbols .entry)) (now (symbols .entry)) (now (terms .entry)) (now (terms .exit)) registers (registers + r) (now (out .entry)) (now (out .exit)) r ⌝ }
 {
-    let op = step_code(s, k);
+    let op = table_layout::step_code(s, k);
     if op == 2 {
         return 0;
     }
@@ -221,7 +206,7 @@ fn state_step(
     ensures counted { λ r. ⌜ 4 * r ≡ length (stepBytes (now (s .entry)) k (now (symbols .entry)) (now (terms .entry)) registers) ⌝ }
     ensures written { λ _. ⌜ now (out .exit) ≡ over (stepBytes (now (s .entry)) k (now (symbols .entry)) (now (terms .entry)) registers) (now (out .entry)) ⌝ }
 {
-    let op = step_code(s, k);
+    let op = table_layout::step_code(s, k);
     let p = register_of(
         s,
         table_layout::step_field(s, k, 0),
@@ -272,7 +257,7 @@ fn bind_step(s: &[u8], k: u8, symbols: &mut [u8; 256], registers: u8) -> u8
     requires { ⌜ (code (now s) 1 (stepsAt (now s)) k < 6) × (registers < 254) ⌝ }
     ensures { λ r. ⌜ BindsStep (now (s .entry)) k (now (symbols .entry)) (now (symbols .exit)) registers r ⌝ }
 {
-    let op = step_code(s, k);
+    let op = table_layout::step_code(s, k);
     if op == 0 {
         return registers;
     }
@@ -378,7 +363,7 @@ fn put_statements(s: &[u8], out: &mut [u8])
 fn due_of(s: &[u8], k: u8) -> usize
     ensures { λ r. ⌜ r ≡ dueOf (now (s .entry)) k ⌝ }
 {
-    if step_code(s, k) == 4 {
+    if table_layout::step_code(s, k) == 4 {
         return 2;
     }
     1
@@ -403,7 +388,7 @@ fn due_count(s: &[u8]) -> usize
 fn compound_of(s: &[u8], i: u8) -> usize
     ensures { λ r. ⌜ r ≡ compoundOf (now (s .entry)) i ⌝ }
 {
-    let op = term_code(s, i);
+    let op = table_layout::term_code(s, i);
     if op == 1 {
         return 1;
     }

@@ -1,12 +1,12 @@
 -- Types counted, and written one after the other. Assumes nothing.
 use mathlib.Core.Path.{_≡_, refl, sym, ap, _∙_}
-use mathlib.Core.List.{List, [], _∷_, _++_, append-assoc, append-nil}
+use mathlib.Core.List.{List, [], _∷_, _++_, append-nil}
 use Prim.Native.Nat.{ℕ, suc, _+_, _-_, _*_, _≤_, _<_}
 use native.Mathlib.Omega.{arith}
 use lib.ListN.{length, take, drop, set, length-append, length-drop, length-set}
 use borrow.Rule.Slice.PartMut.{putMid}
 use Rattle.entries.specs.Tiling.{listed, joined}
-use Rattle.entries.proofs.Tiling.{listed-add}
+use Rattle.entries.proofs.Tiling.{listed-add, joined-append}
 use Rattle.types.specs.Version1.{T, bytes}
 use Rattle.buffers.specs.Over.{over, overIf}
 use Rattle.buffers.proofs.Parts.{part-from}
@@ -18,17 +18,12 @@ use Rattle.decoded_list.specs.Bytes.{typeBytes, typesBytes}
 use Rattle.type_lists.specs.Lists.{typesTo, TypeIs, SizeIs, TypePut, TypesPut}
 
 -- the bytes of one type more
-pub joined-more : {A : Type 0} (g : A → List ℕ) (xs ys : List A) → joined g (xs ++ ys) ≡ joined g xs ++ joined g ys
-unfolding joined
-joined-more g [] ys = refl
-joined-more g (x ∷ xs) ys = ap (λ (l : List ℕ). g x ++ l) (joined-more g xs ys) ∙ sym (append-assoc (g x) (joined g xs) (joined g ys))
-
 types-more : (Γ : Env signature1) (x : ℕ) → typesBytes (typesTo Γ (x + 1)) ≡ typesBytes (typesTo Γ x) ++ typeBytes (Γ x)
 unfolding joined listed
 types-more Γ x =
     let from : 0 + x ≡ x = omega arith in
     let q : listed Γ 0 (x + 1) ≡ typesTo Γ x ++ (Γ x ∷ []) = rw from at (listed-add Γ 0 x 1) in
-    ap (λ (l : List T). joined typeBytes l) q ∙ joined-more typeBytes (typesTo Γ x) (Γ x ∷ []) ∙ ap (λ (l : List ℕ). typesBytes (typesTo Γ x) ++ l) (append-nil (typeBytes (Γ x)))
+    ap (λ (l : List T). joined typeBytes l) q ∙ joined-append typeBytes (typesTo Γ x) (Γ x ∷ []) ∙ ap (λ (l : List ℕ). typesBytes (typesTo Γ x) ++ l) (append-nil (typeBytes (Γ x)))
 
 more-length : (Γ : Env signature1) (x : ℕ) → length (typesBytes (typesTo Γ (x + 1))) ≡ length (typesBytes (typesTo Γ x)) + length (typeBytes (Γ x))
 more-length Γ x = ap (λ (l : List ℕ). length l) (types-more Γ x) ∙ length-append (typesBytes (typesTo Γ x)) (typeBytes (Γ x))

@@ -25,9 +25,6 @@ pub fn type_slots(table: &[u8], work: &mut [u8]) -> Check
     answers::refuse(10, codes::TABLE, k as usize)
 }
 
-// A lent buffer as the file of a refusal; it has no mark, unlike the three that are read.
-const BUFFER: u8 = 3;
-
 // Number 15: a lent buffer is too short for the bytes needed.
 pub fn check_room(out: &[u8], need: usize) -> Check
     ensures { λ r. ⌜ Room need (length (now (out .entry))) r ⌝ }
@@ -35,7 +32,7 @@ pub fn check_room(out: &[u8], need: usize) -> Check
     if need <= out.len() {
         return Check::Pass;
     }
-    answers::refuse(15, BUFFER, need)
+    answers::refuse(15, codes::BUFFER, need)
 }
 
 // The widest types of a table.

@@ -6,7 +6,7 @@ ghost use Prim.Native.Nat.{_≤_};
 ghost use lib.ListN.{length};
 ghost use Rattle.marks.specs.Put.{Put, blank};
 ghost use Rattle.typing.specs.Marking.{usesAt, PartsPut, DownPut, StepMarked};
-ghost use Rattle.typing.specs.Stages.{KeyPut, KeysPut, SlotPut, PairPut, CipherPut, SplitPut, OpenPut, WantsPut, StepPut, Inferred, codeOf};
+ghost use Rattle.typing.specs.Stages.{KeyPut, KeysPut, SlotPut, PairPut, CipherPut, SplitPut, OpenPut, WantsPut, StepPut, Inferred};
 ghost use Rattle.typing.specs.Answers.{TableInferred};
 
 // The widest typing is found; or the highest step from which the rest of the steps has none.
@@ -157,19 +157,12 @@ fn want_cipher(work: &mut [u8], want: &mut [u8], table: &[u8], k: u8) -> bool
     false
 }
 
-// The code of step k.
-fn step_code(table: &[u8], k: u8) -> u8
-    ensures { λ r. ⌜ r ≡ codeOf (now (table .entry)) k ⌝ }
-{
-    entries::code_at(table, codes::STEP, table_layout::steps_at(table), k as u16)
-}
-
 // Pushes what step k wants of its terms; want is room for a type.
 fn put_wants(work: &mut [u8], want: &mut [u8], table: &[u8], k: u8) -> bool
     requires { ⌜ 259 ≤ length (now want) ⌝ }
     ensures { λ r. ⌜ WantsPut (now (work .entry)) (now (table .entry)) k (now (work .exit)) r ⌝ }
 {
-    let op = step_code(table, k);
+    let op = table_layout::step_code(table, k);
     match op {
         0 | 1 => {
             let channel = [2u8; 1];

@@ -8,6 +8,7 @@ use borrow.Rule.Slice.PartMut.{putMid}
 use Rattle.buffers.specs.Over.{over, overIf}
 use Rattle.buffers.proofs.OverLaws.{over-fits, over-lent, over-length}
 use Rattle.buffers.proofs.Parts.{part-length}
+use Rattle.entries.proofs.Tiling.{joined-append}
 use Rattle.entries.specs.Tiling.{joined}
 use Rattle.calculus.specs.Terms.{Atom}
 use Rattle.calculus.specs.Tables.{Entry}
@@ -26,8 +27,7 @@ module _ {A : Type 0} (g : A → List ℕ) where
   -- one more
   pub joined-more : (xs : List A) (x : A) → joined g (xs ++ (x ∷ [])) ≡ joined g xs ++ g x
   unfolding joined
-  joined-more [] x = append-nil (g x)
-  joined-more (y ∷ xs) x = rw (joined-more xs x, append-assoc)
+  joined-more xs x = joined-append g xs (x ∷ []) ∙ ap (λ (l : List ℕ). joined g xs ++ l) (append-nil (g x))
 
   -- their bytes
   pub joined-length : ((x : A) → length (g x) ≡ 5) → (xs : List A) → length (joined g xs) ≡ 5 * length xs

@@ -1,8 +1,8 @@
--- `judging::term_code` meets its contract. Assumes nothing.
+-- `table_layout::term_code` meets its contract. Assumes nothing.
 use mathlib.Core.Path.{_∙_}
 use borrow.Author.Needs.{needs}
-use Rattle.judging.proofs.term_code.Statement.{statement}
-use Rattle.judging.proofs.term_code.Tie as tie
+use Rattle.table_layout.proofs.term_code.Statement.{statement}
+use Rattle.table_layout.proofs.term_code.Tie as tie
 
 terms-at-requires : tie.Need-terms-at-requires
 terms-at-requires c κs = search needs

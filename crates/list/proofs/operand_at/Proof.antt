@@ -1,11 +1,11 @@
--- `judging::operand_at` meets its contract. Assumes nothing.
+-- `list::operand_at` meets its contract. Assumes nothing.
 use mathlib.Core.Path.{sym, ap, _∙_}
 use native.Mathlib.Omega.{arith}
 use Rattle.base.specs.Bytes.{byte}
-use Rattle.judging.proofs.DueBytes.{statement-field-byte}
+use Rattle.list.proofs.Operands.{statement-field-byte}
 use borrow.Author.Needs.{needs}
-use Rattle.judging.proofs.operand_at.Statement.{statement}
-use Rattle.judging.proofs.operand_at.Tie as tie
+use Rattle.list.proofs.operand_at.Statement.{statement}
+use Rattle.list.proofs.operand_at.Tie as tie
 
 mul-byte-at : tie.Need-mul-byte-at
 mul-byte-at c = search needs

@@ -1,7 +1,8 @@
--- `typing::step_code` meets its contract. Assumes nothing.
+-- `table_layout::step_code` meets its contract. Assumes nothing.
+use mathlib.Core.Path.{_∙_}
 use borrow.Author.Needs.{needs}
-use Rattle.typing.proofs.step_code.Statement.{statement}
-use Rattle.typing.proofs.step_code.Tie as tie
+use Rattle.table_layout.proofs.step_code.Statement.{statement}
+use Rattle.table_layout.proofs.step_code.Tie as tie
 
 steps-at-requires : tie.Need-steps-at-requires
 steps-at-requires c κs = search needs
@@ -10,7 +11,7 @@ code-at-requires : tie.Need-code-at-requires
 code-at-requires c κs = search needs
 
 returns : tie.Need-returns
-returns c = rw (c .before .steps-at .ensures) at (c .code-at .ensures)
+returns c = c .code-at .ensures ∙ rw (c .before .steps-at .ensures)
 
 pub step-code-spec : {M : Type 1} → statement M
 step-code-spec = tie.close (tie.spec steps-at-requires code-at-requires returns)
