@@ -1,9 +1,9 @@
 -- The ladder answers the least fault, and no second answer fits. Assumes nothing.
 use mathlib.Core.Path.{_≡_, refl, sym, ap, _∙_}
 use mathlib.Core.Bool.{Bool, true, false}
-use mathlib.Core.Logic.{_⊎_, inl, inr, ⊎-elim}
-use mathlib.Core.List.{List, [], _∷_, _++_}
-use Prim.Native.Nat.{ℕ, zero, suc, _+_, _≤_, _<_}
+use mathlib.Core.Logic.{inl, inr}
+use mathlib.Core.List.{List, [], _∷_}
+use Prim.Native.Nat.{ℕ, suc, _≤_, _<_}
 use native.Mathlib.Nat.{lt-of-not-le}
 use native.Mathlib.Decide.{decLt}
 use native.Mathlib.Omega.{arith}
@@ -13,7 +13,7 @@ use Rattle.answers.specs.Ladder.{Rung, answered, least}
 use Rattle.answers.specs.Least.{At, Fault, here, later, Before, Least, none, lowest, Ordered, no-rung, rung}
 use Rattle.answers.specs.declared.Refusal.{Refusal}
 use Rattle.answers.specs.declared.Check.{Check}
-use Rattle.answers.specs.declared.Check.the-variants.{Pass, Refuse}
+use Rattle.answers.specs.declared.Check.the-variants.{Refuse}
 
 -- what a rung's search says: it is clean and the rung has no fault, or it is the rung's first fault
 at-none : (r : Rung) → Found (r .ok) 0 (r .count) clean → (x : Refusal) → At r x → ⊥

@@ -1,11 +1,11 @@
 -- Laws of `over`: one byte more, a copy byte by byte, and a part that is lent from the end of what is written. Assumes nothing.
-use mathlib.Core.Path.{_≡_, refl, sym, ap, _∙_}
+use mathlib.Core.Path.{_≡_, refl}
 use mathlib.Core.List.{List, [], _∷_, _++_, append-assoc, append-nil}
-use Prim.Native.Nat.{ℕ, zero, suc, _+_, _-_, _≤_, _<_}
+use Prim.Native.Nat.{ℕ, suc, _+_, _-_, _≤_, _<_}
 use native.Mathlib.Omega.{arith}
 use native.Mathlib.Numerals.{add-one}
-use lib.ListN.{length, take, drop, getD, set, length-append, length-drop, length-take}
-use lib.Seq.{take-all, length-take-le, take-suc, drop-cons, drop-drop, set-append-seam, take-append-seam, drop-append-seam, take-length, drop-length, append-snoc}
+use lib.ListN.{length, take, drop, getD, set, length-append, length-drop}
+use lib.Seq.{take-all, length-take-le, take-suc, drop-cons, drop-drop, set-append-seam, take-append-seam, drop-append-seam, drop-length, append-snoc}
 use borrow.Rule.Slice.PartMut.{putMid, same-len-mid}
 use borrow.Author.Tests.{le-leb, lt-leb}
 use Rattle.buffers.specs.Over.{over, overIf}

@@ -1,13 +1,12 @@
 -- Laws of the rows: kinds that are none, and how wide an entry and its fields are. Assumes nothing.
-use mathlib.Core.Path.{_≡_, refl, sym, ap, _∙_}
-use mathlib.Core.Bool.{Bool, true, false}
-use mathlib.Core.List.{List, [], _∷_}
-use Prim.Native.Nat.{ℕ, zero, suc, _+_, _*_, _≤_, _<_}
+use mathlib.Core.Path.{_≡_, refl}
+use mathlib.Core.Bool.{false}
+use Prim.Native.Nat.{ℕ, zero, suc, _*_, _≤_, _<_}
 use native.Mathlib.Omega.{arith}
 use native.Mathlib.Nat.{mul-le-mul}
 use borrow.Author.Tests.{le-ltb}
 use Rattle.base.specs.Bytes.{byte}
-use Rattle.codes.specs.Rows.{known, rows, cell, fields, fieldBytes, width}
+use Rattle.codes.specs.Rows.{known, rows, fields, width}
 
 -- there are four kinds
 pub kind-none : (kind version op : ℕ) → (kind ≡ 0 → ⊥) → (kind ≡ 1 → ⊥) → (kind ≡ 2 → ⊥) → (kind ≡ 3 → ⊥) → known kind version op ≡ false

@@ -1,7 +1,7 @@
 -- A list always fits the program's buffer, and what is written is a list or a line. Assumes nothing.
-use mathlib.Core.Path.{_≡_, refl, sym, ap, _∙_}
-use mathlib.Core.List.{List, [], _∷_, _++_}
-use Prim.Native.Nat.{ℕ, zero, suc, _+_, _*_, _≤_, _<_}
+use mathlib.Core.Path.{_≡_, ap}
+use mathlib.Core.List.{List, _++_}
+use Prim.Native.Nat.{ℕ, zero, suc, _+_, _*_, _≤_}
 use native.Mathlib.Omega.{arith}
 use lib.ListN.{length, take, drop, length-append}
 use lib.Seq.{take-append-seam}
@@ -10,7 +10,7 @@ use Rattle.answers.specs.declared.Check.{Check}
 use Rattle.answers.specs.declared.Check.the-variants.{Pass, Refuse}
 use Rattle.entries.specs.Tiling.{listed, joined}
 use Rattle.table_layout.specs.Layout.{symbols}
-use Rattle.types.specs.Version1.{T, bytes}
+use Rattle.types.specs.Version1.{bytes}
 use Rattle.buffers.specs.Over.{over}
 use Rattle.calculus.specs.Figure2.{Env}
 use Rattle.calculus.specs.Version1.{signature1}
@@ -21,13 +21,13 @@ use Rattle.decoded.proofs.Passes.{table-passes}
 use Rattle.decoded_list.specs.Bytes.{headerBytes, typeBytes, typesBytes, statementsBytes}
 use Rattle.type_lists.specs.Lists.{typesTo}
 use Rattle.translate.proofs.Writing.{bytes-length}
-use Rattle.type_service.specs.Services.{IsWidest, TableRefused, Answered, table-refused, too-short, written}
+use Rattle.type_service.specs.Services.{IsWidest, Answered, table-refused, too-short, written}
 use Rattle.compile_service.specs.Files.{listFile}
 use Rattle.compile_service.proofs.FileLaws.{file-parts, few-statements, header-length}
 use Rattle.compile_service.proofs.ReadBack.{widest-short}
 use Rattle.lines.specs.Lines.{LinePut}
 use Rattle.lines.proofs.LineLaws.{counted}
-use Rattle.compile.specs.Printed.{Text, a-list, a-line, Printed}
+use Rattle.compile.specs.Printed.{a-list, a-line, Printed}
 
 -- types of at most 129 bytes, with their length bytes
 types-short : (Γ : Env signature1) (i n : ℕ) → ((x : ℕ) → length (bytes (Γ x)) ≤ 129) → length (typesBytes (listed Γ i n)) ≤ 130 * n

@@ -1,12 +1,11 @@
 -- The three parts of a list, written one after the other. Assumes nothing.
 use mathlib.Core.Path.{_≡_, refl, sym, ap, _∙_}
-use mathlib.Core.List.{List, [], _∷_, _++_, append-assoc}
-use Prim.Native.Nat.{ℕ, _+_, _-_, _*_, _≤_, _<_}
+use mathlib.Core.List.{List, _++_, append-assoc}
+use Prim.Native.Nat.{ℕ, _+_, _-_, _*_, _≤_}
 use native.Mathlib.Omega.{arith}
 use lib.ListN.{length, take, drop, length-append, length-drop}
 use borrow.Rule.Slice.PartMut.{putMid}
 use Rattle.answers.specs.Ladder.{least}
-use Rattle.answers.specs.declared.Check.the-variants.{Pass}
 use Rattle.table_layout.specs.Layout.{symbols}
 use Rattle.table.specs.Faults.{tableRungs}
 use Rattle.buffers.specs.Over.{over}
@@ -19,13 +18,11 @@ use Rattle.rendering.specs.Translation.{translation}
 use Rattle.decoded.specs.Table.{tableOf}
 use Rattle.decoded_list.specs.Bytes.{headerBytes, typesBytes, statementsBytes, listBytes}
 use Rattle.entries.proofs.Tiling.{listed-length}
-use Rattle.slots.specs.Slots.{Holds}
-use Rattle.type_lists.specs.Lists.{typesTo, SizeIs, TypesPut}
+use Rattle.type_lists.specs.Lists.{typesTo}
 use Rattle.translate.specs.Stepwise.{wroteIf}
 use Rattle.translate.proofs.Ranged.{all-fits}
 use Rattle.translate.proofs.Writing.{bytes-length}
 use Rattle.type_service.specs.Services.{IsWidest}
-use Rattle.type_service.proofs.ServiceLaws.{few-symbols}
 use Rattle.compile_service.specs.Files.{listFile}
 
 pub header-length : (symbols statements : ℕ) → length (headerBytes symbols statements) ≡ 8

@@ -1,11 +1,10 @@
 -- What the compile service wrote is read again: no fault 1 to 5, the translation, the widest types. Assumes nothing.
-use mathlib.Core.Path.{_≡_, refl, sym, ap, _∙_}
+use mathlib.Core.Path.{_≡_, ap, _∙_}
 use mathlib.Core.List.{List}
-use Prim.Native.Nat.{ℕ, zero, suc, _+_, _*_, _≤_, _<_}
+use Prim.Native.Nat.{ℕ, zero, suc, _≤_}
 use native.Mathlib.Omega.{arith}
 use lib.ListN.{length, take, drop}
 use lib.Seq.{take-append-seam}
-use Rattle.answers.specs.declared.Check.{Check}
 use Rattle.answers.specs.declared.Check.the-variants.{Pass}
 use Rattle.entries.specs.Tiling.{listed}
 use Rattle.entries.proofs.Tiling.{listed-length}
@@ -25,7 +24,7 @@ use Rattle.decoded_list.proofs.FileLayout.{file-count}
 use Rattle.compiled.specs.Compiled.{compiled}
 use Rattle.compiled.proofs.Compiled.{compiled-passes, compiled-statements, compiled-type}
 use Rattle.type_lists.specs.Lists.{typesTo}
-use Rattle.type_service.specs.Services.{IsWidest, Answered, table-refused, too-short, written}
+use Rattle.type_service.specs.Services.{IsWidest, Answered, written}
 use Rattle.compile_service.specs.Files.{listFile, ReadsBack}
 use Rattle.compile_service.proofs.FileLaws.{few-statements}
 

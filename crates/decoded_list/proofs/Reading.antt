@@ -1,7 +1,7 @@
 -- A list that passes 1 to 5, read and written again, is the same file: it is the file of a list. Assumes that its elements are bytes:
 -- a low byte of N above 255 would be read as more.
 use mathlib.Core.Path.{_≡_, refl, sym, ap, _∙_}
-use mathlib.Core.List.{List, [], _∷_, _++_, append-nil}
+use mathlib.Core.List.{List, [], _∷_, append-nil}
 use Prim.Native.Nat.{ℕ, zero, suc, _+_, _/_, _%_, _≤_, _<_}
 use native.Mathlib.Decide.{decLt}
 use native.Mathlib.Omega.{arith}

@@ -6,7 +6,7 @@ use Rattle.codes.specs.Marks.{mark}
 use Rattle.entries.specs.Tiling.{joined}
 use Rattle.types.specs.Version1.{T, bytes}
 use Rattle.calculus.specs.Signature.{Two, pairing, seal}
-use Rattle.calculus.specs.Terms.{Build, build1, build2, Act, send, receive, fresh, compare, split, decrypt, Side, left, right, Statement, act, half, build}
+use Rattle.calculus.specs.Terms.{build1, build2, send, receive, fresh, compare, split, decrypt, Side, left, right, Statement, act, half, build}
 use Rattle.calculus.specs.Version1.{One1, Seal1, encryption, signature1}
 use Rattle.rendering.specs.Lists.{StatementList}
 

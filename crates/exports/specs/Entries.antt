@@ -1,7 +1,7 @@
 -- The eight entries of each answer: number, file, place, and what was read where nothing is refused.
 -- Assumes nothing: these are definitions.
 use mathlib.Core.List.{List, [], _∷_}
-use Prim.Native.Nat.{ℕ, _+_}
+use Prim.Native.Nat.{ℕ}
 use lib.Dec.{leb}
 use Rattle.base.specs.Pick.{pick}
 use Rattle.answers.specs.Ladder.{least}

@@ -1,7 +1,7 @@
 -- How an exported function gives its answer: eight entries of a lent array, and the refusal number as its result.
 -- Assumes nothing: these are definitions.
 use mathlib.Core.Path.{_≡_}
-use mathlib.Core.List.{List, [], _∷_, _++_}
+use mathlib.Core.List.{List, _++_}
 use Prim.Native.Nat.{ℕ, _≤_, _<_}
 use lib.ListN.{length, drop, getD}
 

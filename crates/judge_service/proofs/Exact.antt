@@ -2,7 +2,6 @@
 -- makes every term. Assumes nothing.
 use mathlib.Core.Path.{_≡_, refl, sym, ap, _∙_}
 use mathlib.Core.List.{List}
-use mathlib.Core.Logic.{_↔_}
 use Prim.Native.Nat.{ℕ, _<_}
 use native.Mathlib.Omega.{arith}
 use lib.ListN.{length, take, drop}
@@ -18,8 +17,8 @@ use Rattle.calculus.specs.Figure2.{Env}
 use Rattle.calculus.specs.Scope.{In}
 use Rattle.calculus.specs.Version1.{signature1}
 use Rattle.rendering.specs.Rendering.{halves}
-use Rattle.rendering.specs.Judge.{Verdict, accepted, notDue, unfinished, is-faithful}
-use Rattle.rendering.specs.Lists.{StatementList, Answer, typesDiffer, judged, FaithfulList, Answered, types-differ, types-equal}
+use Rattle.rendering.specs.Judge.{accepted, notDue, unfinished, is-faithful}
+use Rattle.rendering.specs.Lists.{StatementList, Answer, judged, FaithfulList, Answered, types-differ, types-equal}
 use Rattle.rendering.proofs.Version1Laws.{answer-once1, translation-is-faithful1, every-term-is-made1}
 use Rattle.decoded.specs.Table.{tableOf}
 use Rattle.decoded.proofs.Checked.{table-checked}
@@ -29,7 +28,7 @@ use Rattle.compiled.specs.Compiled.{compiled, freeCount}
 use Rattle.translate.proofs.Ranged.{in-range, none-idle}
 use Rattle.type_lists.specs.Lists.{typesTo}
 use Rattle.type_service.specs.Services as services
-use Rattle.type_service.specs.Services.{IsWidest, TableRefused}
+use Rattle.type_service.specs.Services.{IsWidest}
 use Rattle.type_service.proofs.ServiceLaws.{same-widest, not-both, refused-once}
 use Rattle.compile_service.specs.Files.{listFile}
 use Rattle.compile_service.proofs.ReadBack.{file-reads-back}

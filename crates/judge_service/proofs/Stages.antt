@@ -1,5 +1,5 @@
 -- The stages of the judge, each passed on or left behind. Assumes nothing.
-use mathlib.Core.Path.{_≡_, refl, sym, ap, _∙_}
+use mathlib.Core.Path.{_≡_, sym, ap, _∙_}
 use mathlib.Core.List.{List}
 use Prim.Native.Nat.{ℕ}
 use native.Mathlib.Omega.{arith}
@@ -8,12 +8,11 @@ use Rattle.answers.specs.declared.Refusal.{Refusal}
 use Rattle.answers.specs.declared.Check.{Check}
 use Rattle.answers.specs.declared.Check.the-variants.{Pass, Refuse}
 use Rattle.table_layout.specs.Layout.{symbols}
-use Rattle.table.specs.Faults.{tableRungs}
 use Rattle.list.specs.Faults.{listRungs}
 use Rattle.calculus.specs.Figure2.{Env}
 use Rattle.calculus.specs.Version1.{signature1}
 use Rattle.rendering.specs.Rendering.{halves}
-use Rattle.rendering.specs.Judge.{Verdict, accepted, notDue, unfinished, judge}
+use Rattle.rendering.specs.Judge.{accepted, judge}
 use Rattle.rendering.specs.Lists.{types-differ, types-equal}
 use Rattle.rendering.proofs.JudgeLaws.{judge-is-exact}
 use Rattle.decoded.specs.Table.{tableOf}
@@ -22,7 +21,7 @@ use Rattle.decoded.proofs.Unlike.{terms-unrepeated}
 use Rattle.decoded_list.specs.Decoded.{Decoded}
 use Rattle.decoded_list.specs.Statements.{statementsOf}
 use Rattle.compiled.specs.Compiled.{freeCount}
-use Rattle.judging.specs.Verdicts.{verdictOf, StatementsJudged}
+use Rattle.judging.specs.Verdicts.{StatementsJudged}
 use Rattle.judging.specs.declared.Verdict.the-variants.{Accepted, NotDue, Unfinished}
 use Rattle.type_lists.specs.Lists.{typesTo}
 use Rattle.type_match.specs.Alike.{Alike, alike, unlike}

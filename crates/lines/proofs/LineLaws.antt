@@ -1,5 +1,5 @@
 -- Text appended piece by piece, and the line that it makes. Assumes nothing.
-use mathlib.Core.Path.{_≡_, refl, sym, ap, _∙_}
+use mathlib.Core.Path.{_≡_, refl, ap, _∙_}
 use mathlib.Core.List.{List, [], _∷_, _++_, append-assoc}
 use Prim.Native.Nat.{ℕ, zero, suc, _+_, _-_, _*_, _^_, _≤_, _<_}
 use native.Mathlib.Nat.{pow-zero, pow-suc}
@@ -14,8 +14,8 @@ use Rattle.answers.specs.declared.Check.{Check}
 use Rattle.answers.specs.declared.Check.the-variants.{Pass, Refuse}
 use Rattle.buffers.specs.Over.{over, overIf}
 use Rattle.buffers.proofs.Parts.{part-from}
-use Rattle.buffers.proofs.OverLaws.{over-none, over-fits, over-lent, over-length, lent-length}
-use Rattle.lines.specs.Lines.{Decimal, Appended, NumberPut, refused, lineOf, LineOf, LinePut, acceptedLine, CheckPut}
+use Rattle.buffers.proofs.OverLaws.{over-none, over-fits, over-lent, lent-length}
+use Rattle.lines.specs.Lines.{Appended, NumberPut, refused, lineOf, LinePut, acceptedLine, CheckPut}
 
 -- ── A number of 64 bits has at most 20 digits ──
 

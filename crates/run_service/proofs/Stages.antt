@@ -1,7 +1,7 @@
 -- The stages of a run, each passed on or left behind. Assumes nothing.
 use mathlib.Core.Path.{_≡_, refl, sym, ap, _∙_}
 use mathlib.Core.List.{List}
-use Prim.Native.Nat.{ℕ, _+_, _*_, _≤_, _<_}
+use Prim.Native.Nat.{ℕ}
 use native.Mathlib.Omega.{arith}
 use lib.ListN.{length}
 use Rattle.answers.specs.Ladder.{least}
@@ -26,15 +26,14 @@ use Rattle.decoded_list.specs.Statements.{statementsOf}
 use Rattle.decoded_list.proofs.Reading.{list-decoded}
 use Rattle.decoded_list.proofs.Once.{decoded-once, decoded-symbols, decoded-body}
 use Rattle.compiled.specs.Compiled.{freeCount}
-use Rattle.execution.specs.Types.{TypesAre}
-use Rattle.machine.specs.Statements.{runOf, Told, StatementsRun}
+use Rattle.machine.specs.Statements.{StatementsRun}
 use Rattle.machine.specs.declared.Ran.{Ran}
 use Rattle.starting.specs.Fourteen.{Fourteen, starts, StartsChecked}
 use Rattle.type_lists.specs.Lists.{typesTo}
 use Rattle.type_service.specs.Services.{refusal, IsWidest, Room, enough, short}
 use Rattle.judge_service.specs.Judged.{Judged}
-use Rattle.judge_service.proofs.Exact.{FaithfulFile, accepted-is-faithful}
-use Rattle.run_service.specs.Runs.{valueNeed, messageNeed, Sound, RunRefused, not-accepted, trace-faulty, start-lacks, values-short, messages-short, Runnable, RunChecked, noRun, RunAnswered, refused, ran}
+use Rattle.judge_service.proofs.Exact.{accepted-is-faithful}
+use Rattle.run_service.specs.Runs.{valueNeed, messageNeed, Sound, not-accepted, trace-faulty, start-lacks, values-short, messages-short, Runnable, RunChecked, noRun, RunAnswered, refused, ran}
 
 -- ── What an accepted list is ──
 

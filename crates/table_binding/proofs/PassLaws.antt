@@ -1,6 +1,6 @@
 -- What each turn of the two passes adds to its array. Assumes nothing.
-use mathlib.Core.Path.{_≡_, refl, sym, ap, _∙_}
-use mathlib.Core.Bool.{Bool, true, false}
+use mathlib.Core.Path.{_≡_, refl, sym, _∙_}
+use mathlib.Core.Bool.{true}
 use mathlib.Core.Logic.{_⊎_, inl, inr}
 use mathlib.Core.List.{List, [], _∷_, _++_}
 use Prim.Native.Nat.{ℕ, zero, suc, _+_, _<_, _≤_}
@@ -11,9 +11,9 @@ use lib.Dec.{eqb}
 use lib.ListN.{length, getD, length-append, length-replicate, getD-replicate, List·getD-append, List·getD-eq-default}
 use lib.Seq.{getD-at}
 use borrow.Author.Tests.{eq-eqb, ne-eqb}
-use Rattle.base.specs.Pick.{pick, both}
+use Rattle.base.specs.Pick.{both}
 use Rattle.marks.specs.Put.{Put, blank}
-use Rattle.table_layout.specs.Layout.{terms, steps}
+use Rattle.table_layout.specs.Layout.{terms}
 use Rattle.table_binding.specs.Binding.{binds, binder, larger, fieldLatest, latest}
 use Rattle.table_binding.specs.Tables.{Binders, Latest}
 

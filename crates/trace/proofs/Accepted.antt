@@ -4,14 +4,13 @@ use mathlib.Core.Bool.{Bool, true, false, not}
 use mathlib.Core.List.{List, [], _∷_, _++_}
 use Prim.Native.Nat.{ℕ, zero, suc, _+_, _<_}
 use native.Mathlib.Omega.{arith}
-use lib.Dec.{eqb}
 use lib.ListN.{getD}
 use borrow.Author.Tests.{lt-ltb, le-leb, eq-eqb}
 use Rattle.base.specs.Bytes.{byte}
 use Rattle.base.proofs.Searched.{each-all-right}
-use Rattle.answers.specs.Ladder.{whole, least}
+use Rattle.answers.specs.Ladder.{least}
 use Rattle.answers.specs.declared.Check.the-variants.{Pass}
-use Rattle.answers.proofs.Ladder.{least-none, whole-right}
+use Rattle.answers.proofs.Ladder.{least-none}
 use Rattle.codes.specs.Rows.{cell, fields, known, rows, atomKinds, limitsOf}
 use Rattle.entries.specs.Fields.{field, role, fieldOk, fieldsOk, entryOk, sameEntry}
 use Rattle.entries.specs.Faults.{nodeOk, alone}

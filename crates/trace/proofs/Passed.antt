@@ -4,12 +4,12 @@ use mathlib.Core.Bool.{true}
 use mathlib.Core.List.{List, [], _∷_, _++_}
 use Prim.Native.Nat.{ℕ, zero, suc, _+_, _*_, _≤_, _<_}
 use native.Mathlib.Omega.{arith}
-use lib.Dec.{ltb, leb, eqb}
+use lib.Dec.{ltb, leb}
 use lib.ListN.{getD, length}
 use borrow.Author.Tests.{ltb-true, leb-true, eqb-true}
 use Rattle.base.specs.Bytes.{byte}
 use Rattle.base.proofs.Searched.{all-right-each}
-use Rattle.answers.specs.Ladder.{Rung, whole, least}
+use Rattle.answers.specs.Ladder.{Rung, least}
 use Rattle.answers.specs.declared.Check.the-variants.{Pass}
 use Rattle.codes.specs.Rows.{cell, fields, known, rows, atomKinds, limitsOf}
 use Rattle.entries.specs.Fields.{field, role, fieldOk, fieldsOk, entryOk}

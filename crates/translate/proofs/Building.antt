@@ -1,32 +1,28 @@
 -- Building a term in the code's order: left part, right part, then the statement that makes it. Assumes that 1 to 9 pass.
-use mathlib.Core.Path.{_≡_, refl, sym, ap, _∙_}
+use mathlib.Core.Path.{_≡_, refl, _∙_}
 use mathlib.Core.Bool.{Bool, true, false}
-use mathlib.Core.List.{List, [], _∷_, _++_}
+use mathlib.Core.List.{List, [], _∷_}
 use Prim.Native.Nat.{ℕ, zero, suc, _+_, _-_, _*_, _<_, _≤_}
 use native.Mathlib.Omega.{arith}
 use lib.Dec.{eqb}
-use lib.ListN.{length, take, drop, getD, length-append}
-use borrow.Author.Tests.{eq-eqb, ne-eqb, eqb-true, eqb-false}
-use Rattle.base.specs.Pick.{pick}
+use lib.ListN.{length, take, drop, length-append}
+use borrow.Author.Tests.{eqb-true, eqb-false}
 use Rattle.answers.specs.Ladder.{least}
 use Rattle.answers.specs.declared.Check.the-variants.{Pass}
 use Rattle.buffers.specs.Over.{over}
 use Rattle.entries.specs.Fields.{code}
 use Rattle.table_layout.specs.Layout.{terms, termsAt, termField}
 use Rattle.table.specs.Faults.{tableRungs}
-use Rattle.calculus.specs.Signature.{pairing, seal}
-use Rattle.calculus.specs.Terms.{build2, build}
-use Rattle.calculus.specs.Version1.{encryption}
-use Rattle.rendering.specs.Judge.{Meaning, symbol, term, meantBy}
+use Rattle.rendering.specs.Judge.{Meaning, term, meantBy}
 use Rattle.entries.specs.Tiling.{joined}
-use Rattle.decoded_list.specs.Bytes.{statementBytes, statementsBytes, twoOp}
+use Rattle.decoded_list.specs.Bytes.{statementBytes, twoOp}
 use Rattle.free_symbols.specs.Entries.{meaningOf, kindOf}
 use Rattle.translate.specs.Stepwise.{Making, registerAt, built, making, after}
 use Rattle.translate.specs.Registers.{held, Held, Ready, Done, heldAt, registerIn, settled, makeBytes, Noted}
 use Rattle.translate.proofs.HeldLaws.{noted-term, register-held}
 use Rattle.free_symbols.proofs.Tabled.{counts-small, a-leaf, a-compound, IsCompound}
-use Rattle.translate.proofs.BuiltLaws.{built-grows, built-settled, Unsettled, not-settled, built-made, compound-means}
-use Rattle.translate.proofs.Writing.{done-length, ready-first, ready-second, done-both, done-nothing}
+use Rattle.translate.proofs.BuiltLaws.{built-grows, built-settled, Unsettled, not-settled, built-made}
+use Rattle.translate.proofs.Writing.{done-length, ready-first, ready-second, done-nothing}
 
 -- as many registers by another name
 pub done-as : {r : Making} {symbols terms out o : List ℕ} {p q n : ℕ} → p ≡ q → Done r symbols terms p out o n → Done r symbols terms q out o n

@@ -1,8 +1,8 @@
 -- Building a term by its parts: the bound on its depth does not matter, and each statement gives a register. Assumes nothing.
-use mathlib.Core.Path.{_≡_, refl, sym, ap, _∙_}
+use mathlib.Core.Path.{_≡_, refl, _∙_}
 use mathlib.Core.Bool.{Bool, true, false, cond, not}
-use mathlib.Core.List.{List, [], _∷_, _++_, append-nil, append-assoc}
-use Prim.Native.Nat.{ℕ, zero, suc, _+_, _<_, _≤_}
+use mathlib.Core.List.{List, [], _∷_, append-nil}
+use Prim.Native.Nat.{ℕ, zero, suc, _+_, _<_}
 use native.Mathlib.Omega.{arith}
 use lib.Dec.{eqb}
 use lib.ListN.{length, getD, length-append}
@@ -13,17 +13,16 @@ use Rattle.answers.specs.declared.Check.the-variants.{Pass}
 use Rattle.entries.specs.Fields.{code}
 use Rattle.table_layout.specs.Layout.{terms, termsAt, termField}
 use Rattle.table.specs.Faults.{tableRungs}
-use Rattle.calculus.specs.Terms.{Build, build1, build2, mapBuild, Statement, build}
-use Rattle.calculus.specs.Tables.{Entry, leafEntry, kindEntry, entryAt, Closed, Lower, low-leaf, low-two}
+use Rattle.calculus.specs.Terms.{build1, build2, mapBuild}
+use Rattle.calculus.specs.Tables.{Entry, leafEntry, kindEntry, entryAt, Closed, Lower, low-two}
 use Rattle.calculus.specs.Version1.{signature1}
 use Rattle.rendering.specs.Judge.{Meaning, symbol, term, meantBy, meant}
-use Rattle.rendering.specs.Translation.{registerOf, isBuilt, parts, Made, buildEach, buildEntry, buildTerm}
-use Rattle.decoded.specs.Table.{tableOf}
+use Rattle.rendering.specs.Translation.{isBuilt, parts, buildEach, buildEntry, buildTerm}
 use Rattle.decoded.proofs.Passed.{table-passed}
 use Rattle.decoded.proofs.Holding.{table-closed, entries-length}
-use Rattle.free_symbols.specs.Entries.{entriesOf, meaningOf, kindOf}
+use Rattle.free_symbols.specs.Entries.{entriesOf, meaningOf}
 use Rattle.translate.specs.Stepwise.{Making, registerAt, built, making, after}
-use Rattle.translate.specs.Registers.{held, HeldTerms, settled}
+use Rattle.translate.specs.Registers.{HeldTerms, settled}
 use Rattle.translate.proofs.HeldLaws.{held-built, held-unbuilt}
 use Rattle.free_symbols.proofs.Tabled.{counts-small, a-leaf, a-compound, IsCompound}
 

@@ -1,14 +1,14 @@
 -- How many statements are due, and how many terms are compound, by index. Assumes nothing.
-use mathlib.Core.Path.{_≡_, refl, sym, ap, _∙_}
-use mathlib.Core.List.{List, [], _∷_, _++_, map}
+use mathlib.Core.Path.{_≡_, refl}
+use mathlib.Core.List.{List, [], _∷_, map}
 use Prim.Native.Nat.{ℕ, zero, suc, _+_, _-_, _<_, _≤_}
 use native.Mathlib.Omega.{arith}
 use native.Mathlib.Numerals.{add-one}
 use lib.ListN.{length, length-append, length-map}
 use Rattle.entries.specs.Fields.{code}
-use Rattle.table_layout.specs.Layout.{terms, steps, termsAt, stepsAt, termField, stepField}
+use Rattle.table_layout.specs.Layout.{terms, steps, termsAt, stepsAt}
 use Rattle.calculus.specs.Terms.{Term, Act, send, receive, fresh, compare, split, decrypt, mapAct}
-use Rattle.calculus.specs.Tables.{Entry, leafEntry, kindEntry, denoted, process}
+use Rattle.calculus.specs.Tables.{Entry, leafEntry, kindEntry, denoted}
 use Rattle.calculus.specs.Version1.{signature1}
 use Rattle.rendering.specs.Rendering.{Due, halves, duesOf, dues}
 use Rattle.rendering.specs.Translation.{compounds}

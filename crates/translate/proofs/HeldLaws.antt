@@ -1,15 +1,15 @@
 -- What the arrays hold, one meaning more, and what a term's register is by them. Assumes nothing.
 use mathlib.Core.Path.{_≡_, refl, sym, ap, _∙_}
-use mathlib.Core.Bool.{Bool, true, false, cond, not, decide, _||_}
+use mathlib.Core.Bool.{Bool, true, false, cond, decide, _||_}
 use mathlib.Core.List.{List, [], _∷_, _++_}
-use Prim.Native.Nat.{ℕ, zero, suc, _+_, _-_, _<_, _≤_}
+use Prim.Native.Nat.{ℕ, suc, _+_, _-_, _<_}
 use native.Mathlib.Omega.{arith}
 use native.Mathlib.Numerals.{add-one}
 use lib.Dec.{eqb}
 use lib.ListN.{length, getD, length-append, length-replicate, getD-replicate}
-use borrow.Author.Tests.{eq-eqb, ne-eqb, eqb-true, eqb-false}
+use borrow.Author.Tests.{ne-eqb, eqb-true, eqb-false}
 use Rattle.base.specs.Pick.{pick, both}
-use Rattle.marks.specs.Put.{Put, blank}
+use Rattle.marks.specs.Put.{blank}
 use Rattle.rendering.specs.Judge.{Meaning, symbol, term, sameMeant}
 use Rattle.rendering.specs.Translation.{registerOf, isBuilt}
 use Rattle.rendering.proofs.Base.{decides, denies}

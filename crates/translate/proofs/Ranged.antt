@@ -1,9 +1,8 @@
 -- What 1 to 9 leave of a table for the theorems of the translation: symbols are below S, and no term is idle. So N is known, and
 -- registers can be named. Assumes that 1 to 9 pass.
-use mathlib.Core.Path.{_≡_, refl, sym, ap, _∙_}
-use mathlib.Core.Bool.{Bool, true, false}
-use mathlib.Core.Logic.{_⊎_, inl, inr}
-use mathlib.Core.List.{List, [], _∷_, _++_}
+use mathlib.Core.Path.{_≡_, refl, sym, _∙_}
+use mathlib.Core.Logic.{inl, inr}
+use mathlib.Core.List.{List, [], _∷_}
 use Prim.Native.Nat.{ℕ, zero, suc, _+_, _<_, _≤_}
 use native.Mathlib.Omega.{arith}
 use native.Mathlib.Decide.{ℕ-discrete}
@@ -12,11 +11,11 @@ use Rattle.base.specs.Bytes.{byte}
 use Rattle.answers.specs.Ladder.{least}
 use Rattle.answers.specs.declared.Check.the-variants.{Pass}
 use Rattle.codes.specs.Rows.{cell}
-use Rattle.entries.specs.Fields.{code, role}
+use Rattle.entries.specs.Fields.{code}
 use Rattle.table_layout.specs.Layout.{symbols, terms, steps, termsAt, stepsAt, termField, termRole, stepField, stepRole}
 use Rattle.table.specs.Faults.{tableRungs}
-use Rattle.calculus.specs.Terms.{Act, build2, operands, binders, bound}
-use Rattle.calculus.specs.Tables.{Entry, leafEntry, kindEntry, entryAt}
+use Rattle.calculus.specs.Terms.{operands, binders, bound}
+use Rattle.calculus.specs.Tables.{Entry, leafEntry, entryAt}
 use Rattle.calculus.specs.Scope.{In, here, there, All, all-nil}
 use Rattle.calculus.specs.Version1.{signature1}
 use Rattle.rendering.specs.Rendering.{halves}
@@ -24,7 +23,7 @@ use Rattle.rendering.specs.Translation.{parts, translation, translated, InRange
 use Rattle.rendering.proofs.Base.{all-append, all-map}
 use Rattle.rendering.proofs.Version1Laws.{length-is-known1, translation-fits1}
 use Rattle.entries.specs.Tiling.{listed}
-use Rattle.decoded.specs.Meaning.{HasPart, Uses, Binds, Named}
+use Rattle.decoded.specs.Meaning.{HasPart, Uses, Named}
 use Rattle.decoded.specs.Table.{actOf, sortAt, stepAt, tableOf}
 use Rattle.entries.proofs.Tiling.{listed-length}
 use Rattle.decoded.proofs.Naming.{named-means}

@@ -1,5 +1,5 @@
 -- The whole translation: what its loop starts with. Assumes that 1 to 9 pass.
-use mathlib.Core.Path.{_≡_, refl, sym, ap, _∙_}
+use mathlib.Core.Path.{_≡_, refl}
 use mathlib.Core.List.{List, [], _∷_, _++_, map, append-nil, append-assoc}
 use Prim.Native.Nat.{ℕ, _*_, _≤_}
 use lib.ListN.{length}
@@ -15,7 +15,7 @@ use Rattle.rendering.specs.Judge.{Meaning, symbol, term}
 use Rattle.rendering.specs.Translation.{translation, translated}
 use Rattle.decoded.specs.Table.{tableOf}
 use Rattle.free_symbols.specs.Entries.{entriesOf}
-use Rattle.translate.specs.Stepwise.{Making, stepsMade, atStart}
+use Rattle.translate.specs.Stepwise.{stepsMade, atStart}
 use Rattle.translate.specs.Registers.{HeldSymbols, HeldTerms, Ready}
 use Rattle.translate.proofs.HeldLaws.{held-none, symbol-kept}
 use Rattle.translate.proofs.Ranged.{all-fits}

@@ -2,33 +2,27 @@
 use mathlib.Core.Path.{_≡_, refl, sym, ap, _∙_}
 use mathlib.Core.Logic.{_⊎_, inl, inr}
 use mathlib.Core.List.{List, [], _∷_, _++_, map, append-nil, append-assoc}
-use Prim.Native.Nat.{ℕ, zero, suc, _+_, _-_, _*_, _<_, _≤_}
+use Prim.Native.Nat.{ℕ, zero, suc, _+_, _-_, _<_, _≤_}
 use native.Mathlib.Omega.{arith}
 use lib.ListN.{length, length-append}
 use Rattle.answers.specs.Ladder.{least}
 use Rattle.answers.specs.declared.Check.the-variants.{Pass}
 use Rattle.base.specs.Bytes.{byte}
 use Rattle.codes.specs.Rows.{cell}
-use Rattle.buffers.specs.Over.{over, overIf}
+use Rattle.buffers.specs.Over.{overIf}
 use Rattle.buffers.proofs.OverLaws.{over-fits, over-length}
 use Rattle.entries.specs.Fields.{code}
 use Rattle.table_layout.specs.Layout.{terms, steps, stepsAt, stepField}
 use Rattle.table.specs.Faults.{tableRungs}
-use Rattle.calculus.specs.Terms.{Act, send, receive, fresh, compare, split, decrypt, mapAct, operands, binders}
+use Rattle.calculus.specs.Terms.{split, operands, binders}
 use Rattle.calculus.specs.Version1.{signature1}
-use Rattle.rendering.specs.Rendering.{halves, duesOf}
-use Rattle.rendering.specs.Judge.{Meaning, symbol, term, meant}
-use Rattle.rendering.specs.Translation.{registerOf, buildEach, stated}
-use Rattle.entries.specs.Tiling.{joined}
-use Rattle.decoded.specs.Table.{actOf, stepAt}
-use Rattle.decoded_list.specs.Bytes.{statementBytes, statementsBytes, halfOp}
-use Rattle.free_symbols.specs.Entries.{entriesOf, meaningOf}
-use Rattle.translate.specs.Stepwise.{Making, registerAt, built, after, operandsBuilt, stepStated, stepBound}
-use Rattle.translate.specs.Registers.{Held, HeldSymbols, registerIn, stateBytes, stepBytes, Noted}
-use Rattle.free_symbols.proofs.Tabled.{step-as, step-known, operand-there}
+use Rattle.rendering.specs.Judge.{Meaning, symbol}
+use Rattle.rendering.specs.Translation.{buildEach}
+use Rattle.decoded.specs.Table.{actOf}
+use Rattle.translate.specs.Stepwise.{built, after, operandsBuilt, stepBound}
+use Rattle.translate.specs.Registers.{registerIn, stateBytes, stepBytes}
+use Rattle.free_symbols.proofs.Tabled.{step-as, operand-there}
 use Rattle.translate.proofs.BuiltLaws.{two-after}
-use Rattle.translate.proofs.HeldLaws.{noted-symbol}
-use Rattle.translate.proofs.Building.{register-right}
 
 module _ (s : List ℕ) (k : ℕ) where
   -- ── Its terms ──

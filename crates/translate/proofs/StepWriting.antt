@@ -1,5 +1,5 @@
 -- A step as it is written: its terms, then its statements, then the registers of the symbols that it binds. Assumes that 1 to 9 pass.
-use mathlib.Core.Path.{_≡_, refl, sym, ap, _∙_}
+use mathlib.Core.Path.{_≡_, refl, ap}
 use mathlib.Core.List.{List, [], _∷_, _++_, map, append-nil, append-assoc}
 use Prim.Native.Nat.{ℕ, zero, suc, _+_, _-_, _*_, _<_, _≤_}
 use native.Mathlib.Omega.{arith}
@@ -8,15 +8,14 @@ use borrow.Rule.Slice.PartMut.{putMid}
 use Rattle.answers.specs.Ladder.{least}
 use Rattle.answers.specs.declared.Check.the-variants.{Pass}
 use Rattle.buffers.specs.Over.{over}
-use Rattle.buffers.proofs.Parts.{part-length}
 use Rattle.entries.specs.Fields.{code}
 use Rattle.table_layout.specs.Layout.{terms, steps, stepsAt, stepField}
 use Rattle.table.specs.Faults.{tableRungs}
 use Rattle.calculus.specs.Terms.{Act, send, receive, fresh, compare, split, decrypt, mapAct, binders}
 use Rattle.calculus.specs.Version1.{signature1}
 use Rattle.rendering.specs.Rendering.{halves, duesOf}
-use Rattle.rendering.specs.Judge.{Meaning, symbol, term}
-use Rattle.rendering.specs.Translation.{registerOf, stated}
+use Rattle.rendering.specs.Judge.{Meaning, symbol}
+use Rattle.rendering.specs.Translation.{stated}
 use Rattle.entries.specs.Tiling.{joined}
 use Rattle.decoded.specs.Table.{actOf, stepAt}
 use Rattle.decoded_list.specs.Bytes.{statementBytes, statementsBytes, halfOp}
@@ -27,7 +26,7 @@ use Rattle.free_symbols.proofs.Tabled.{step-as, step-known}
 use Rattle.translate.proofs.HeldLaws.{symbol-kept}
 use Rattle.translate.proofs.Building.{register-right}
 use Rattle.translate.proofs.StepLaws.{first-there, second-there}
-use Rattle.translate.proofs.Writing.{bytes-length, done-length, done-fits, ready-first, ready-second, ready-as, done-both}
+use Rattle.translate.proofs.Writing.{bytes-length, done-fits, ready-first, ready-second, ready-as, done-both}
 
 stated-of : (s : List ℕ) (k op : ℕ) → code s 1 (stepsAt s) k ≡ op → (ns : List Meaning)
     → stepStated s k ns ≡ map (stated signature1 (entriesOf s) ns) (duesOf signature1 halves (actOf op (stepField s k 0) (stepField s k 1) (stepField s k 2) (stepField s k 3)))

@@ -1,7 +1,7 @@
 -- The steps one after the other: one step more, and how far the loop has come. Assumes that 1 to 9 pass.
 use mathlib.Core.Path.{_≡_, refl, sym, ap, _∙_}
 use mathlib.Core.List.{List, [], _∷_, _++_, map, append-nil, append-assoc}
-use Prim.Native.Nat.{ℕ, zero, suc, _+_, _-_, _*_, _<_, _≤_}
+use Prim.Native.Nat.{ℕ, suc, _+_, _-_, _*_, _<_, _≤_}
 use native.Mathlib.Omega.{arith}
 use native.Mathlib.Numerals.{add-one}
 use lib.ListN.{length, take, drop, length-append}
@@ -13,15 +13,14 @@ use Rattle.buffers.proofs.Parts.{part-length}
 use Rattle.table_layout.specs.Layout.{terms, steps}
 use Rattle.table.specs.Faults.{tableRungs}
 use Rattle.calculus.specs.Terms.{Act, operands, binders, Statement}
-use Rattle.calculus.specs.Scope.{All, all-nil, all-cons}
+use Rattle.calculus.specs.Scope.{All, all-cons}
 use Rattle.calculus.specs.Version1.{signature1}
-use Rattle.rendering.specs.Rendering.{halves, duesOf}
+use Rattle.rendering.specs.Rendering.{halves}
 use Rattle.rendering.specs.Judge.{Meaning, symbol}
-use Rattle.rendering.specs.Translation.{buildEach, buildTerm, stated, translateFrom}
+use Rattle.rendering.specs.Translation.{buildEach, buildTerm, translateFrom}
 use Rattle.rendering.proofs.Base.{all-map}
-use Rattle.entries.specs.Tiling.{listed, joined}
-use Rattle.decoded.specs.Meaning.{Uses}
-use Rattle.decoded.specs.Table.{stepAt, tableOf}
+use Rattle.entries.specs.Tiling.{listed}
+use Rattle.decoded.specs.Table.{stepAt}
 use Rattle.decoded.proofs.Passed.{table-passed}
 use Rattle.decoded.proofs.Ranges.{terms-there}
 use Rattle.decoded.proofs.Shapes.{step-uses}

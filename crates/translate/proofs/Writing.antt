@@ -1,16 +1,14 @@
 -- What is made one after the other, each through a part that starts where the last one ended. Assumes nothing.
-use mathlib.Core.Path.{_≡_, refl, sym, ap, _∙_}
-use mathlib.Core.List.{List, [], _∷_, _++_, append-assoc, append-nil}
-use Prim.Native.Nat.{ℕ, zero, suc, _+_, _-_, _*_, _<_, _≤_}
+use mathlib.Core.Path.{_≡_, refl, ap, _∙_}
+use mathlib.Core.List.{List, [], _∷_, _++_}
+use Prim.Native.Nat.{ℕ, _+_, _-_, _*_, _≤_}
 use native.Mathlib.Omega.{arith}
 use lib.ListN.{length, take, drop, length-append}
 use borrow.Rule.Slice.PartMut.{putMid}
-use Rattle.buffers.specs.Over.{over}
 use Rattle.buffers.proofs.Parts.{part-length}
 use Rattle.buffers.proofs.OverLaws.{over-none, over-length, over-lent}
-use Rattle.calculus.specs.Signature.{pairing, seal}
-use Rattle.calculus.specs.Terms.{Build, build1, build2, Act, send, receive, fresh, compare, split, decrypt, Statement, act, half, build}
-use Rattle.calculus.specs.Version1.{encryption, signature1}
+use Rattle.calculus.specs.Terms.{build1, build2, send, receive, fresh, compare, split, decrypt, Statement, act, half, build}
+use Rattle.calculus.specs.Version1.{signature1}
 use Rattle.rendering.specs.Judge.{Meaning}
 use Rattle.entries.specs.Tiling.{joined}
 use Rattle.entries.proofs.Tiling.{joined-append}

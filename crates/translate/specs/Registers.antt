@@ -10,9 +10,7 @@ use Rattle.marks.specs.Put.{Put, blank}
 use Rattle.entries.specs.Fields.{code}
 use Rattle.table_layout.specs.Layout.{termsAt, stepsAt, termField, stepField}
 use Rattle.buffers.specs.Over.{over}
-use Rattle.calculus.specs.Terms.{Statement}
 use Rattle.calculus.specs.Tables.{isIn}
-use Rattle.calculus.specs.Version1.{signature1}
 use Rattle.rendering.specs.Judge.{Meaning, symbol, term}
 use Rattle.rendering.specs.Translation.{registerOf, isBuilt}
 use Rattle.decoded_list.specs.Bytes.{statementsBytes}

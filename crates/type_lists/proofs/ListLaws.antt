@@ -1,7 +1,7 @@
 -- Types counted, and written one after the other. Assumes nothing.
 use mathlib.Core.Path.{_≡_, refl, sym, ap, _∙_}
 use mathlib.Core.List.{List, [], _∷_, _++_, append-nil}
-use Prim.Native.Nat.{ℕ, suc, _+_, _-_, _*_, _≤_, _<_}
+use Prim.Native.Nat.{ℕ, suc, _+_, _-_, _≤_, _<_}
 use native.Mathlib.Omega.{arith}
 use lib.ListN.{length, take, drop, set, length-append, length-drop, length-set}
 use borrow.Rule.Slice.PartMut.{putMid}
@@ -10,7 +10,7 @@ use Rattle.entries.proofs.Tiling.{listed-add, joined-append}
 use Rattle.types.specs.Version1.{T, bytes}
 use Rattle.buffers.specs.Over.{over, overIf}
 use Rattle.buffers.proofs.Parts.{part-from}
-use Rattle.buffers.proofs.OverLaws.{over-none, over-first, over-fits, over-lent, over-length, lent-length}
+use Rattle.buffers.proofs.OverLaws.{over-none, over-first, over-fits, over-lent, lent-length}
 use Rattle.calculus.specs.Figure2.{Env}
 use Rattle.calculus.specs.Version1.{signature1}
 use Rattle.slots.specs.Slots.{Holds}

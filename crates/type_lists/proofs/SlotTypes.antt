@@ -1,6 +1,6 @@
 -- The part of the slots that holds a type. Assumes nothing.
-use mathlib.Core.Path.{_≡_, refl, sym, ap, _∙_}
-use mathlib.Core.List.{List, [], _∷_, _++_}
+use mathlib.Core.Path.{_≡_, sym, ap, _∙_}
+use mathlib.Core.List.{List, []}
 use mathlib.Core.Option.{none, some}
 use Prim.Native.Nat.{ℕ, _+_, _-_, _*_, _≤_, _<_}
 use native.Mathlib.Omega.{arith}
@@ -10,9 +10,6 @@ use Rattle.types.specs.Prefix.{EndIs}
 use Rattle.types.specs.Version1.{T, bytes, codes1}
 use Rattle.types.proofs.PrefixLaws.{ends-inside, ends-part, ends-type}
 use Rattle.types.proofs.Version1Laws.{code-laws1}
-use Rattle.calculus.specs.Figure2.{Env}
-use Rattle.calculus.specs.Version1.{signature1}
-use Rattle.slots.specs.Slots.{Holds}
 use Rattle.slots.proofs.SlotLaws.{here}
 use Rattle.type_lists.specs.Lists.{TypeIs}
 

@@ -1,9 +1,9 @@
 -- Types compared one after the other. Assumes nothing.
 use mathlib.Core.Path.{_≡_, refl, sym, ap, _∙_}
 use mathlib.Core.Bool.{Bool, true, false, not}
-use mathlib.Core.Option.{Option, none, some, Option·some-inj, Option·none-ne-some, Option·some-ne-none}
-use mathlib.Core.List.{List, [], _∷_, _++_}
-use Prim.Native.Nat.{ℕ, zero, suc, _+_, _-_, _*_, _≤_, _<_}
+use mathlib.Core.Option.{none, some, Option·some-inj, Option·none-ne-some}
+use mathlib.Core.List.{List, [], _∷_}
+use Prim.Native.Nat.{ℕ, zero, suc, _+_, _-_, _≤_, _<_}
 use native.Mathlib.Omega.{arith}
 use native.Mathlib.Numerals.{add-one}
 use lib.ListN.{length, take, drop, getD, getElem?}
@@ -12,23 +12,23 @@ use Rattle.base.specs.Bytes.{byte}
 use Rattle.answers.specs.Ladder.{least}
 use Rattle.answers.specs.declared.Check.{Check}
 use Rattle.answers.specs.declared.Check.the-variants.{Pass, Refuse}
-use Rattle.list.specs.Layout.{symbols, bodyAt, pastType, typeAt}
+use Rattle.list.specs.Layout.{symbols, typeAt}
 use Rattle.list.specs.Faults.{listRungs}
 use Rattle.list.proofs.Framed.{list-passes, type-inside}
-use Rattle.list.proofs.Walks.{type-at-first, type-at-next}
+use Rattle.list.proofs.Walks.{type-at-next}
 use Rattle.list.proofs.TypesExact.{type-once}
 use Rattle.entries.proofs.Tiling.{listed-length}
 use Rattle.types.specs.Types.{Message}
 use Rattle.types.specs.Version1.{T, bytes}
 use Rattle.calculus.specs.Figure2.{Env}
 use Rattle.calculus.specs.Version1.{signature1}
-use Rattle.rendering.specs.Lists.{Differ, differ-at}
+use Rattle.rendering.specs.Lists.{differ-at}
 use Rattle.decoded.proofs.Listed.{listed-all-at}
 use Rattle.decoded_list.specs.Decoded.{Decoded}
 use Rattle.decoded_list.proofs.Once.{decoded-symbols, decoded-body}
 use Rattle.slots.specs.Slots.{Holds}
 use Rattle.type_lists.specs.Lists.{typesTo, TypeIs}
-use Rattle.type_match.specs.Alike.{Alike, alike, unlike, BodyIs, Matched}
+use Rattle.type_match.specs.Alike.{alike, unlike, BodyIs, Matched}
 
 -- ── Elements of lists ──
 

@@ -13,11 +13,10 @@ use Rattle.table.specs.Faults.{tableRungs}
 use Rattle.decoded.proofs.Passes.{table-passes}
 use Rattle.buffers.specs.Over.{over}
 use Rattle.calculus.specs.Figure2.{Env}
-use Rattle.calculus.specs.Typing.{widest, untyped, AnswerIs}
+use Rattle.calculus.specs.Typing.{widest, untyped}
 use Rattle.calculus.specs.Version1.{signature1}
 use Rattle.calculus.proofs.Version1Laws.{one-answer1}
 use Rattle.decoded.specs.Table.{tableOf}
-use Rattle.slots.specs.Slots.{Holds}
 use Rattle.typing.specs.Answers.{TableInferred}
 use Rattle.typing.specs.declared.Typing.the-variants.{Widest, NoTyping}
 use Rattle.type_service.specs.Services.{refusal, IsWidest, TableRefused, faulty, no-typing, SlotsTyped, SlotsPut, Room, enough, short, Answered, table-refused, too-short, written}
