@@ -1,2 +1,3 @@
+-- What the promises of `answers` speak of.
 pub mod Ladder
 pub mod Least

@@ -1,3 +1,4 @@
+-- What the promises of `base` speak of.
 pub mod Pick
 pub mod Bytes
 pub mod Search

@@ -1,15 +1,15 @@
 -- Laws of `over`: one byte more, a copy byte by byte, and a part that is lent from the end of what is written. Assumes nothing.
-use mathlib.Core.Path.{_≡_, refl}
+use mathlib.Core.Path.{_≡_, refl, _∙_}
 use mathlib.Core.List.{List, [], _∷_, _++_, append-assoc, append-nil}
 use Prim.Native.Nat.{ℕ, suc, _+_, _-_, _≤_, _<_}
 use native.Mathlib.Omega.{arith}
 use native.Mathlib.Numerals.{add-one}
-use lib.ListN.{length, take, drop, getD, set, length-append, length-drop}
+use lib.ListN.{length, take, drop, getD, set, length-append, length-drop, length-set}
 use lib.Seq.{take-all, length-take-le, take-suc, drop-cons, drop-drop, set-append-seam, take-append-seam, drop-append-seam, drop-length, append-snoc}
 use borrow.Rule.Slice.PartMut.{putMid, same-len-mid}
 use borrow.Author.Tests.{le-leb, lt-leb}
 use Rattle.buffers.specs.Over.{over, overIf}
-use Rattle.buffers.proofs.Parts.{part-from}
+use Rattle.buffers.proofs.Parts.{part-from, part-length}
 
 -- nothing is written yet
 pub over-none : (z : List ℕ) → z ≡ over [] z
@@ -67,3 +67,23 @@ over-lent w e z xs ys a p q r = rw (r, q, p) (over-part w e z)
 -- the length of a buffer whose part has come back
 pub lent-length : (a : ℕ) (xs ys : List ℕ) → length ys ≡ length (take (length xs - a) (drop a xs)) → length (putMid a (length xs - a) xs ys) ≡ length xs
 lent-length a xs ys e = same-len-mid a (length xs - a) xs ys e
+
+-- ── A first byte b is stored, and the rest is lent ──
+
+-- what is lent
+abbrev pub lentRest : List ℕ → ℕ → List ℕ
+lentRest z b = take (length (set z 0 b) - 1) (drop 1 (set z 0 b))
+
+-- the buffer where it came back
+abbrev pub withRest : List ℕ → ℕ → List ℕ → List ℕ
+withRest z b ys = putMid 1 (length (set z 0 b) - 1) (set z 0 b) ys
+
+module _ (z : List ℕ) (b : ℕ) where
+  pub rest-length : length (lentRest z b) ≡ length z - 1
+  rest-length = rw (part-length 1 (set z 0 b), length-set)
+
+  pub rest-kept : (ys : List ℕ) → length ys ≡ length (lentRest z b) → length (withRest z b ys) ≡ length z
+  rest-kept ys e = lent-length 1 (set z 0 b) ys e ∙ length-set z 0 b
+
+  pub rest-over : (ys : List ℕ) → 0 < length z → (e : List ℕ) → ys ≡ over e (lentRest z b) → withRest z b ys ≡ over (b ∷ e) z
+  rest-over ys h e w = over-lent (b ∷ []) e z (set z 0 b) ys 1 refl (over-first z b h) w

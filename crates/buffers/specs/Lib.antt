@@ -1,1 +1,2 @@
+-- What the promises of `buffers` speak of.
 pub mod Over

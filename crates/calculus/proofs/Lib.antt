@@ -1,3 +1,4 @@
+-- Laws of `calculus`, for the proofs of the crates above.
 pub mod TableLaws
 pub mod Environments
 pub mod Inversion

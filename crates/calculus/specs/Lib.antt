@@ -1,3 +1,4 @@
+-- The definitions and statements of `calculus`, in the order to read them.
 pub mod Signature
 pub mod Terms
 pub mod Tables

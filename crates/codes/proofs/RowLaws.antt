@@ -6,7 +6,7 @@ use native.Mathlib.Omega.{arith}
 use native.Mathlib.Nat.{mul-le-mul}
 use borrow.Author.Tests.{le-ltb}
 use Rattle.base.specs.Bytes.{byte}
-use Rattle.codes.specs.Rows.{known, rows, fields, width}
+use Rattle.codes.specs.Rows.{known, rows, width}
 
 -- there are four kinds
 pub kind-none : (kind version op : ℕ) → (kind ≡ 0 → ⊥) → (kind ≡ 1 → ⊥) → (kind ≡ 2 → ⊥) → (kind ≡ 3 → ⊥) → known kind version op ≡ false

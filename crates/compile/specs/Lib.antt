@@ -1,1 +1,2 @@
+-- What the promises of `compile` speak of.
 pub mod Printed

@@ -1,1 +1,2 @@
+-- What the promises of `compile_service` speak of.
 pub mod Files

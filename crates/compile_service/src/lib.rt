@@ -38,7 +38,7 @@ pub fn compile(table: &[u8], out: &mut [u8]) -> Written
         return Written { check: a, bytes: 0 };
     };
     let s = table_layout::symbol_count(table);
-    let n = translate::statement_count(table);
+    let n = statement_counts::statement_count(table);
     let at = 8 + type_lists::types_size(&work, s);
     let need = at + 4 * n;
     let b = type_service::check_room(out, need);

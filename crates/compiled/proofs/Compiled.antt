@@ -31,8 +31,8 @@ use Rattle.decoded_list.specs.Statements.{statementsOf}
 use Rattle.decoded_list.specs.Form.{StatementsFit, InForm}
 use Rattle.decoded_list.proofs.FileBytes.{file-bytes}
 use Rattle.decoded_list.proofs.Passing.{file-passes, file-statements, file-type}
-use Rattle.free_symbols.proofs.Tabled.{counts-small}
-use Rattle.translate.proofs.Ranged.{in-range}
+use Rattle.decoded.proofs.Tabled.{counts-small}
+use Rattle.statement_counts.proofs.Ranged.{in-range}
 use Rattle.compiled.specs.Compiled.{compiled, freeCount}
 use Rattle.compiled.proofs.Rendered.{Nameable, dues-fit, follows-fit}
 

@@ -1,1 +1,2 @@
+-- What the promises of `compiled` speak of.
 pub mod Compiled

@@ -20,6 +20,8 @@ pub mod Checked
 pub mod Unlike
 pub mod Reach
 pub mod Passes
+-- what the translation and the judge need of all that
+pub mod Tabled
 -- the values of a trace, and examples
 pub mod ValueLaws
 pub mod TraceValues

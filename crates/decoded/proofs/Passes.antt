@@ -5,19 +5,17 @@ use mathlib.Core.Logic.{_↔_}
 use mathlib.Core.List.{List}
 use Prim.Native.Nat.{ℕ, _+_, _*_, _<_}
 use native.Mathlib.Omega.{arith}
-use lib.Dec.{leb, eqb}
-use lib.ListN.{length}
+use lib.Dec.{leb}
 use borrow.Author.Tests.{leb-true, le-leb, eqb-true, eq-eqb}
 use Rattle.base.specs.Bytes.{byte, word}
-use Rattle.base.proofs.BothLaws.{both-left, both-right, both-true}
+use Rattle.base.proofs.BothLaws.{both-true, both-parts}
 use Rattle.codes.specs.Marks.{mark, header}
 use Rattle.answers.specs.Ladder.{least}
 use Rattle.answers.specs.declared.Check.the-variants.{Pass}
-use Rattle.answers.proofs.Ladder.{least-none, whole-right}
+use Rattle.answers.proofs.Ladder.{least-none}
 use Rattle.answers.proofs.Passes.{rung-right}
 use Rattle.entries.specs.Faults.{twinRung}
-use Rattle.opening.specs.Opening.{marked, version}
-use Rattle.opening.proofs.Frames.{Framed}
+use Rattle.opening.proofs.Frames.{Framed, frame-right, marked-means, version-bytes}
 use Rattle.table_layout.specs.Layout.{symbols, terms, steps, termsAt, countsOk, lengthOk}
 use Rattle.table_layout.specs.Faults.{symbolRung, termRung, stepRung}
 use Rattle.table_naming.specs.Naming.{idleRung}
@@ -35,35 +33,31 @@ use Rattle.decoded.proofs.Ranges.{parts-lower, terms-there}
 module _ (s : List ℕ) where
   -- 1 to 4, both ways
   frame-to : Framed 0 s (countsOk s) (lengthOk s) → FrameRight s
-  unfolding marked mark header byte word countsOk lengthOk
+  unfolding mark header byte countsOk lengthOk
   frame-to f =
-      let m = f .mark-right in
-      let m₁ = both-right (leb 8 (length s)) _ m in
-      let m₂ = both-right (eqb (byte s 0) 0x53) _ m₁ in
-      let c = f .counts-right in
-      let c₁ = both-right (leb (symbols s) 96) _ c in
-      let v : byte s 3 * 256 + byte s 4 ≡ 1 = f .version-one in
+      let m = marked-means 0 s .0 (f .mark-right) in
+      let (v, w) = version-bytes s (f .version-one) in
+      let (x, c) = both-parts (leb (symbols s) 96) _ (f .counts-right) in
+      let (y, z) = both-parts (leb (terms s) 128) _ c in
       record {
-        header-there = leb-true _ _ (both-left (leb 8 (length s)) _ m);
-        mark-S = eqb-true _ _ (both-left (eqb (byte s 0) 0x53) _ m₁);
-        mark-P = eqb-true _ _ (both-left (eqb (byte s 1) 0x50) _ m₂);
-        mark-T = eqb-true _ _ (both-right (eqb (byte s 1) 0x50) _ m₂);
-        version-high = omega arith;
-        version-low = omega arith;
-        few-symbols = leb-true _ _ (both-left (leb (symbols s) 96) _ c);
-        few-terms = leb-true _ _ (both-left (leb (terms s) 128) _ c₁);
-        few-steps = leb-true _ _ (both-right (leb (terms s) 128) _ c₁);
+        header-there = m .header-there;
+        mark-S = m .first;
+        mark-P = m .second;
+        mark-T = m .third;
+        version-high = v;
+        version-low = w;
+        few-symbols = leb-true _ _ x;
+        few-terms = leb-true _ _ y;
+        few-steps = leb-true _ _ z;
         length-exact = eqb-true _ _ (f .size-right);
       }
 
   frame-from : FrameRight s → Framed 0 s (countsOk s) (lengthOk s)
-  unfolding marked mark header byte word countsOk lengthOk
+  unfolding mark header byte word countsOk lengthOk
   frame-from f =
       let v : byte s 3 * 256 + byte s 4 ≡ 1 = omega arith in
       record {
-        mark-right =
-            both-true (leb 8 (length s)) _ (le-leb _ _ (f .header-there))
-            (both-true (eqb (byte s 0) 0x53) _ (eq-eqb _ _ (f .mark-S)) (both-true (eqb (byte s 1) 0x50) (eqb (byte s 2) 0x54) (eq-eqb _ _ (f .mark-P)) (eq-eqb _ _ (f .mark-T))));
+        mark-right = marked-means 0 s .1 (record { header-there = f .header-there; first = f .mark-S; second = f .mark-P; third = f .mark-T });
         version-one = v;
         counts-right =
             both-true (leb (symbols s) 96) _ (le-leb _ _ (f .few-symbols))
@@ -119,11 +113,7 @@ module _ (s : List ℕ) where
   passes : Passed s → least (tableRungs s) ≡ Pass
   passes p =
       let n = p .entered in
-      let f = n .frame in
-      whole-right 1 0 (marked 0 s) _ (f .mark-right)
-      ∙ whole-right 2 0 (eqb (version s) 1) _ (eq-eqb _ _ (f .version-one))
-      ∙ whole-right 3 0 (countsOk s) _ (f .counts-right)
-      ∙ whole-right 4 0 (lengthOk s) _ (f .size-right)
+      frame-right 0 s (countsOk s) (lengthOk s) _ (n .frame)
       ∙ rung-right (symbolRung s) _ (n .symbols-right)
       ∙ rung-right (termRung s) _ (n .terms-right)
       ∙ rung-right (stepRung s) _ (n .steps-right)

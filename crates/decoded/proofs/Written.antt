@@ -1,20 +1,16 @@
 -- A table that was read and is written again is the same file, so no second file stands for the same table. Assumes that 1 to 5 pass.
 use mathlib.Core.Path.{_≡_, refl, sym, ap, _∙_}
-use mathlib.Core.Bool.{true}
 use mathlib.Core.List.{List, [], _∷_, _++_}
 use Prim.Native.Nat.{ℕ, zero, suc, _+_, _*_, _<_}
 use native.Mathlib.Omega.{arith}
-use lib.Dec.{leb, eqb}
 use lib.ListN.{length}
 use borrow.Author.Tests.{eqb-true}
-use Rattle.base.specs.Bytes.{byte, word}
-use Rattle.base.proofs.BothLaws.{both-left, both-right}
-use Rattle.codes.specs.Marks.{mark, header}
+use Rattle.base.specs.Bytes.{byte}
 use Rattle.codes.specs.Rows.{width}
 use Rattle.answers.specs.Ladder.{least}
 use Rattle.answers.specs.declared.Check.the-variants.{Pass}
 use Rattle.entries.specs.Fields.{placeOf, code}
-use Rattle.opening.specs.Opening.{marked, version}
+use Rattle.opening.proofs.Frames.{marked-means, version-bytes}
 use Rattle.table_layout.specs.Layout.{symbols, terms, steps, termsAt, stepsAt, sort, lengthOk}
 use Rattle.table_layout.specs.Faults.{frameRungs, entryRungs}
 use Rattle.table_layout.proofs.FieldLaws.{term-field-byte, step-field-byte}
@@ -26,22 +22,6 @@ use Rattle.decoded.proofs.Tiling.{stretches, joined-all}
 use Rattle.decoded.proofs.Passed.{Entered, entered, table-passed}
 use Rattle.decoded.proofs.Ranges.{sort-small}
 use Rattle.decoded.proofs.Shapes.{threeBytes, fiveBytes, term-written, step-written}
-
--- the mark of a marked file
-mark-bytes : (s : List ℕ) → marked 0 s ≡ true → (byte s 0 ≡ mark 0 0) × (byte s 1 ≡ mark 0 1) × (byte s 2 ≡ mark 0 2)
-unfolding marked
-mark-bytes s e =
-    let a = both-right (leb (header 0) (length s)) _ e in
-    let b = both-right (eqb (byte s 0) (mark 0 0)) _ a in (
-      eqb-true _ _ (both-left (eqb (byte s 0) (mark 0 0)) _ a),
-      eqb-true _ _ (both-left (eqb (byte s 1) (mark 0 1)) _ b),
-      eqb-true _ _ (both-right (eqb (byte s 1) (mark 0 1)) _ b),
-    )
-
--- the two bytes of version 1
-version-bytes : (s : List ℕ) → version s ≡ 1 → (byte s 3 ≡ 0) × (byte s 4 ≡ 1)
-unfolding word
-version-bytes s e = (omega arith, omega arith)
 
 -- a symbol's byte
 sort-written : (b : ℕ) → b < 2 → sortBytes (sortOf b) ≡ b ∷ []
@@ -85,12 +65,12 @@ module _ (s : List ℕ) (n : Entered s) where
   header-written : headerBytes (tableOf s) ≡ stretch s 0 8
   unfolding headerBytes listed
   header-written =
-      let (a, b, c) = mark-bytes s (n .frame .mark-right) in
+      let m = marked-means 0 s .0 (n .frame .mark-right) in
       let (d, e) = version-bytes s (n .frame .version-one) in
       let x = listed-length (sortAt s) 0 (symbols s) in
       let y = listed-length (termAt s) 0 (terms s) in
       let z = listed-length (stepAt s) 0 (steps s) in
-      rw (x, y, z, a, b, c, d, e)
+      rw (x, y, z, m .first, m .second, m .third, d, e)
 
   -- the symbols, the terms and the steps, written again
   symbols-written : joined sortBytes (listed (sortAt s) 0 (symbols s)) ≡ stretch s 8 (symbols s * 1)

@@ -5,25 +5,23 @@ use mathlib.Core.List.{List, [], _∷_, append-nil}
 use Prim.Native.Nat.{ℕ, zero, suc, _+_, _/_, _%_, _≤_, _<_}
 use native.Mathlib.Decide.{decLt}
 use native.Mathlib.Omega.{arith}
-use lib.Dec.{leb, eqb}
 use lib.ListN.{length, take, drop, length-drop}
 use lib.Seq.{length-take-le, drop-cons}
-use borrow.Author.Tests.{eqb-true}
-use Rattle.base.specs.Bytes.{byte, word}
-use Rattle.base.proofs.BothLaws.{both-left, both-right}
-use Rattle.codes.specs.Marks.{mark, header}
+use Rattle.base.specs.Bytes.{byte}
+use Rattle.codes.specs.Marks.{header}
 use Rattle.answers.specs.Ladder.{least}
 use Rattle.answers.specs.declared.Check.the-variants.{Pass}
 use Rattle.entries.specs.Words.{Bytes}
 use Rattle.entries.specs.Tiling.{listed, joined, stretch, numberBytes}
 use Rattle.entries.proofs.Tiling.{listed-length, listed-add, word-bytes, joined-append}
-use Rattle.opening.specs.Opening.{marked, version}
+use Rattle.opening.specs.Opening.{version}
+use Rattle.opening.proofs.Frames.{marked-means, version-bytes}
 use Rattle.types.specs.Types.{Message}
 use Rattle.types.specs.Version1.{T, bytes}
 use Rattle.list.specs.Layout.{symbols, statements, bodyAt, typeAt, statementsAt, given, statementOkAt, statementOk}
 use Rattle.list.specs.Faults.{listRungs}
 use Rattle.list.specs.Tiles.{joined as tiled, typeEntry, statementEntry, written}
-use Rattle.list.proofs.Framed.{Framed, Listed, list-passes, frame-passes, type-inside, header-there}
+use Rattle.list.proofs.Framed.{Framed, Listed, list-passes, frame-passes, type-inside}
 use Rattle.list.proofs.SymbolTypes.{type-ok-exact}
 use Rattle.list.proofs.Written.{list-written}
 use Rattle.decoded_list.specs.Bytes.{statementBytes, typeBytes, headerBytes, listBytes}
@@ -51,24 +49,15 @@ unfolding listed byte
 take-stretch s p zero h = refl
 take-stretch s p (suc n) h = rw (drop-cons s p 0 (omega arith), take-stretch s (suc p) n (omega arith))
 
--- the two bytes of version 1
-version-bytes : (s : List ℕ) → version s ≡ 1 → (byte s 3 ≡ 0) × (byte s 4 ≡ 1)
-unfolding word
-version-bytes s e = (omega arith, omega arith)
-
 -- the header, written again
 header-again : (s : List ℕ) → Bytes s → Framed s → headerBytes (symbols s) (statements s) ≡ take 8 s
-unfolding headerBytes marked listed
+unfolding headerBytes header byte listed
 header-again s h f =
-    let a = both-right (leb (header 1) (length s)) _ (f .mark-right) in
-    let b = both-right (eqb (byte s 0) (mark 1 0)) _ a in
-    let m0 : byte s 0 ≡ mark 1 0 = eqb-true _ _ (both-left (eqb (byte s 0) (mark 1 0)) _ a) in
-    let m1 : byte s 1 ≡ mark 1 1 = eqb-true _ _ (both-left (eqb (byte s 1) (mark 1 1)) _ b) in
-    let m2 : byte s 2 ≡ mark 1 2 = eqb-true _ _ (both-right (eqb (byte s 1) (mark 1 1)) _ b) in
+    let m = marked-means 1 s .0 (f .mark-right) in
     let (v3, v4) = version-bytes s (f .version-one) in
     let n : statements s / 256 ∷ statements s % 256 ∷ [] ≡ stretch s 6 2 = (unfold numberBytes in word-bytes s h 6) in
-    let w : headerBytes (symbols s) (statements s) ≡ stretch s 0 8 = rw (n, m0, m1, m2, v3, v4) in
-    w ∙ sym (take-stretch s 0 8 (header-there s (f .mark-right)))
+    let w : headerBytes (symbols s) (statements s) ≡ stretch s 0 8 = rw (n, m .first, m .second, m .third, v3, v4) in
+    w ∙ sym (take-stretch s 0 8 (m .header-there))
 
 module _ (s : List ℕ) (free : ℕ) (l : Listed s free) where
   -- statement i, written again

@@ -1,3 +1,4 @@
+-- What the promises of `decoded_list` speak of.
 pub mod Bytes
 pub mod Statements
 pub mod Decoded

@@ -1,3 +1,4 @@
+-- What the promises of `entries` speak of.
 pub mod Fields
 pub mod Faults
 pub mod Words

@@ -7,7 +7,6 @@ use native.Mathlib.Omega.{arith}
 use native.Mathlib.Numerals.{add-one}
 use lib.ListN.{length, drop, length-append, take-append-drop, List·getD-eq-default}
 use Rattle.base.specs.Bytes.{byte}
-use Rattle.entries.specs.Fields.{number}
 use Rattle.entries.specs.Tiling.{listed, joined}
 use Rattle.entries.specs.Words.{Bytes}
 use Rattle.entries.proofs.Words.{word-small}

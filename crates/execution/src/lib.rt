@@ -206,7 +206,7 @@ fn compare(s: State, v: u16, w: u16) -> Step
     Step::Stop(2, s)
 }
 
-// The left (0) or right (1) part of v.
+// The left (0) or right (1) part of v. No accepted list ends with 8, not a pair.
 fn half(values: &[u8], registers: &mut [u32; 608], s: State, j: u8, v: u16) -> Step
     ensures { λ r. ⌜ ((d : Side) (l tr o : List ℕ) → sideNumber d ≡ j → Does 0 0 (halving d v) l tr (now (values .entry)) (now (values .entry)) o o (now (registers .entry)) (now (registers .exit)) s r) ⌝ }
 {
@@ -223,7 +223,7 @@ fn half(values: &[u8], registers: &mut [u32; 608], s: State, j: u8, v: u16) -> S
     })
 }
 
-// Decrypts v with key w into symbol x: a ciphertext, its key, then the type of its inside.
+// Decrypts v with key w into symbol x: a ciphertext, its key, then the type of its inside. No accepted list ends with 9, not a ciphertext.
 fn decrypt(
     list: &[u8],
     values: &[u8],

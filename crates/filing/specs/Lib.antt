@@ -1,1 +1,2 @@
+-- What the promises of `filing` speak of.
 pub mod Filing

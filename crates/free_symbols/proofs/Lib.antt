@@ -1,4 +1,3 @@
--- Laws of checked tables and of their free symbols, for the proofs of the crates above.
-pub mod Tabled
+-- Laws of the free symbols of a table, for the proofs of the crates above.
 pub mod BoundLaws
 pub mod FreeLaws

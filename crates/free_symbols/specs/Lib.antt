@@ -1,2 +1,2 @@
-pub mod Entries
+-- What the promises of `free_symbols` speak of.
 pub mod Free

@@ -1,1 +1,2 @@
+-- What the promises of `judge` speak of.
 pub mod Printed

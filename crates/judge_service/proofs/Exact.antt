@@ -18,17 +18,16 @@ use Rattle.calculus.specs.Scope.{In}
 use Rattle.calculus.specs.Version1.{signature1}
 use Rattle.rendering.specs.Rendering.{halves}
 use Rattle.rendering.specs.Judge.{accepted, notDue, unfinished, is-faithful}
-use Rattle.rendering.specs.Lists.{StatementList, Answer, judged, FaithfulList, Answered, types-differ, types-equal}
+use Rattle.rendering.specs.Lists.{StatementList, Answer, judged, FaithfulList, ListAnswerIs, types-differ, types-equal}
 use Rattle.rendering.proofs.Version1Laws.{answer-once1, translation-is-faithful1, every-term-is-made1}
 use Rattle.decoded.specs.Table.{tableOf}
 use Rattle.decoded.proofs.Checked.{table-checked}
 use Rattle.decoded_list.specs.Bytes.{listBytes}
 use Rattle.decoded_list.proofs.Once.{file-once}
 use Rattle.compiled.specs.Compiled.{compiled, freeCount}
-use Rattle.translate.proofs.Ranged.{in-range, none-idle}
+use Rattle.statement_counts.proofs.Ranged.{in-range, none-idle}
 use Rattle.type_lists.specs.Lists.{typesTo}
-use Rattle.type_service.specs.Services as services
-use Rattle.type_service.specs.Services.{IsWidest}
+use Rattle.type_service.specs.Services.{IsWidest, Answered, written}
 use Rattle.type_service.proofs.ServiceLaws.{same-widest, not-both, refused-once}
 use Rattle.compile_service.specs.Files.{listFile}
 use Rattle.compile_service.proofs.ReadBack.{file-reads-back}
@@ -38,7 +37,7 @@ use Rattle.judge_service.specs.Judged.{verdictCheck, answerCheck, Judged
 
 module _ (t l : List ℕ) where
   same-answer : (Γ Δ : Env signature1) (m k : StatementList signature1) (a b : Answer) → IsWidest t Γ → IsWidest t Δ → l ≡ listBytes m → l ≡ listBytes k
-      → Answered signature1 halves (tableOf t) (typesTo Γ (symbols t)) m a → Answered signature1 halves (tableOf t) (typesTo Δ (symbols t)) k b → a ≡ b
+      → ListAnswerIs signature1 halves (tableOf t) (typesTo Γ (symbols t)) m a → ListAnswerIs signature1 halves (tableOf t) (typesTo Δ (symbols t)) k b → a ≡ b
   same-answer Γ Δ m k a b w v e f p q =
       let g : Γ ≡ Δ = same-widest t Γ Δ w v in
       let h : m ≡ k = file-once m k (sym e ∙ f) in
@@ -66,7 +65,7 @@ pub record FaithfulFile (t l : List ℕ) : Type 0 where
   pub is-file : l ≡ listBytes list
   pub faithful : FaithfulList signature1 halves (tableOf t) (typesTo Γ (symbols t)) list
 
-accepted-answer : (t : List ℕ) (Γ : Env signature1) (m : StatementList signature1) (a : Answer) → Answered signature1 halves (tableOf t) (typesTo Γ (symbols t)) m a → answerCheck a ≡ Pass
+accepted-answer : (t : List ℕ) (Γ : Env signature1) (m : StatementList signature1) (a : Answer) → ListAnswerIs signature1 halves (tableOf t) (typesTo Γ (symbols t)) m a → answerCheck a ≡ Pass
     → FaithfulList signature1 halves (tableOf t) (typesTo Γ (symbols t)) m
 unfolding answerCheck verdictCheck
 accepted-answer t Γ m a (types-differ d) e = let y : _≡_ {A = ℕ} 0 1 = cc in absurd (omega arith)
@@ -96,9 +95,9 @@ compiled-is-faithful t Γ w = record {
 }
 
 -- what the compile service wrote for a table, the judge accepts: of both services' own answers and bytes
-pub ours-is-accepted : (t z o : List ℕ) (n : ℕ) (r : Check) → services.Answered (listFile t) t z o Pass n → Judged t (take n o) r → r ≡ Pass
+pub ours-is-accepted : (t z o : List ℕ) (n : ℕ) (r : Check) → Answered (listFile t) t z o Pass n → Judged t (take n o) r → r ≡ Pass
 unfolding over
-ours-is-accepted t z o n r (services.written {Γ = Γ} w l) j =
+ours-is-accepted t z o n r (written {Γ = Γ} w l) j =
     let e = take-append-seam (listFile t Γ) (drop (length (listFile t Γ)) z) in
     faithful-is-accepted t (listFile t Γ) r (rw e at j) (compiled-is-faithful t Γ w)
 

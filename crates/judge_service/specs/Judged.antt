@@ -14,7 +14,7 @@ use Rattle.calculus.specs.Figure2.{Env}
 use Rattle.calculus.specs.Version1.{signature1}
 use Rattle.rendering.specs.Rendering.{halves}
 use Rattle.rendering.specs.Judge.{Verdict, accepted, notDue, unfinished, judge}
-use Rattle.rendering.specs.Lists.{StatementList, Answer, typesDiffer, judged, Answered}
+use Rattle.rendering.specs.Lists.{StatementList, Answer, typesDiffer, judged, ListAnswerIs}
 use Rattle.decoded.specs.Table.{tableOf}
 use Rattle.decoded_list.specs.Bytes.{listBytes}
 use Rattle.decoded_list.specs.Statements.{statementsOf}
@@ -38,9 +38,9 @@ pub record VerdictGiven (t l : List ℕ) (r : Check) : Type 0 where
   pub given : least (tableRungs t) ≡ Pass → least (listRungs l (freeCount t)) ≡ Pass → r ≡ verdictCheck (judge signature1 halves (tableOf t) (statementsOf l))
 
 -- the answer: a refusal of the table; a refusal of the list by itself; or what the list m is, whose file l is, beside the table and its
--- widest types: `Answered` says when it is accepted, and what 11, 12 and 13 and their places mean
+-- widest types: `ListAnswerIs` says when it is accepted, and what 11, 12 and 13 and their places mean
 pub data Judged (t l : List ℕ) : Check → Type 0 where
   table-refused : {x : Refusal} → TableRefused t x → Judged t l (Refuse x)
   list-refused : {Γ : Env signature1} {x : Refusal} → IsWidest t Γ → least (listRungs l (freeCount t)) ≡ Refuse x → Judged t l (Refuse x)
   list-judged : {Γ : Env signature1} {m : StatementList signature1} {a : Answer} → IsWidest t Γ → least (listRungs l (freeCount t)) ≡ Pass → l ≡ listBytes m
-      → Answered signature1 halves (tableOf t) (typesTo Γ (symbols t)) m a → Judged t l (answerCheck a)
+      → ListAnswerIs signature1 halves (tableOf t) (typesTo Γ (symbols t)) m a → Judged t l (answerCheck a)

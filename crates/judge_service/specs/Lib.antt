@@ -1,1 +1,2 @@
+-- What the promises of `judge_service` speak of.
 pub mod Judged

@@ -26,8 +26,8 @@ use Rattle.rendering.specs.Judge.{Meaning, symbol, says}
 use Rattle.decoded.specs.Table.{actOf, stepAt}
 use Rattle.decoded_list.specs.Bytes.{halfOp}
 use Rattle.decoded_list.specs.Statements.{statementOf}
-use Rattle.free_symbols.specs.Entries.{meaningOf}
-use Rattle.free_symbols.proofs.Tabled.{step-as, step-known, operand-there}
+use Rattle.decoded.specs.Indexes.{meaningOf}
+use Rattle.decoded.proofs.Tabled.{step-as, step-known, operand-there}
 use Rattle.judging.specs.Meanings.{Meant, meantAt}
 use Rattle.judging.specs.Due.{dueFrom, dueOp, operandsDue, stepAfter, halfAfter, newOf}
 use Rattle.judging.proofs.TableMeanings.{register-means, bound-small}

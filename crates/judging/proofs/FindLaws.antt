@@ -28,8 +28,8 @@ use Rattle.rendering.specs.Judge.{Meaning, term, meant, fits, findFrom, turn}
 use Rattle.decoded.specs.Table.{entryOf, twoCode, termAt}
 use Rattle.decoded.proofs.Passed.{table-passed}
 use Rattle.decoded.proofs.Ranges.{term-code}
-use Rattle.free_symbols.specs.Entries.{entriesOf, meaningOf}
-use Rattle.free_symbols.proofs.Tabled.{counts-small, term-as, a-compound}
+use Rattle.decoded.specs.Indexes.{entriesOf, meaningOf}
+use Rattle.decoded.proofs.Tabled.{counts-small, term-as, a-compound}
 use Rattle.judging.specs.declared.State.{State}
 use Rattle.judging.specs.Meanings.{coded, Small, Meant, Held, Gives, meantAt}
 use Rattle.judging.specs.Due.{dueFrom, fitsAt}

@@ -26,6 +26,13 @@ statement-two (seal encryption) u v x = refl
 turned-as : (t : List ℕ) (ms : List Meaning) (z : List ℕ) {op op′ : ℕ} {o o′ : Answer} (r : Turn) → op ≡ op′ → o ≡ o′ → Turned t ms z op′ o′ r → Turned t ms z op o r
 turned-as t ms z r e f h = rw (e, f) h
 
+-- what the registers hold that a statement names first
+pub record Operands (l : List ℕ) (base i : ℕ) (z : List ℕ) (p q : ℕ) : Type 0 where
+  pub first : p ≡ getD z (field l 2 base i 0) 0
+  pub second : q ≡ getD z (field l 2 base i 1) 0
+  pub first-small : field l 2 base i 0 < 256
+  pub second-small : field l 2 base i 1 < 256
+
 module _ (t l : List ℕ) (base i : ℕ) (z z′ : List ℕ) (registers : ℕ) (a : State) (r : Turn) (p q : ℕ) where
   abbrev u : ℕ
   u = field l 2 base i 0
@@ -33,12 +40,12 @@ module _ (t l : List ℕ) (base i : ℕ) (z z′ : List ℕ) (registers : ℕ) (
   abbrev v : ℕ
   v = field l 2 base i 1
 
-  module _ (pe : p ≡ getD z u 0) (qe : q ≡ getD z v 0) (ps : u < 256) (qs : v < 256) where
+  module _ (o : Operands l base i z p q) where
     -- what its registers mean
     operands-meant : (ms : List Meaning) → Readable l base i registers → Held ms z → registers ≡ length ms → ¬ (code l 2 base i ≡ 2) → Meant ms u p × Meant ms v q
     operands-meant ms g h n w =
         let (x, y) = g .operands w in
-        (rw pe (h .at u ps (omega arith)), rw qe (h .at v qs (omega arith)))
+        (rw (o .first) (h .at u (o .first-small) (omega arith)), rw (o .second) (h .at v (o .second-small) (omega arith)))
 
     -- a build
     pub turns-build : (k : Two Seal1) (kind : ℕ) → kind ≡ twoCode k → code l 2 base i ≡ kind + 6 → BuildTurns t kind p q z z′ registers a r → Turns t l base i z z′ registers a r

@@ -14,7 +14,7 @@ use Rattle.table.specs.Faults.{tableRungs}
 use Rattle.calculus.specs.Version1.{signature1}
 use Rattle.rendering.specs.Judge.{Meaning, turn}
 use Rattle.decoded_list.specs.Statements.{statementOf}
-use Rattle.free_symbols.specs.Entries.{entriesOf}
+use Rattle.decoded.specs.Indexes.{entriesOf}
 use Rattle.judging.specs.declared.State.{State}
 use Rattle.judging.specs.Meanings.{Held}
 use Rattle.judging.specs.Due.{BindsNext, dueFrom, isDue, newOf}

@@ -20,8 +20,8 @@ use Rattle.rendering.specs.Judge.{Meaning, meantBy}
 use Rattle.decoded.proofs.Passed.{table-passed}
 use Rattle.decoded.proofs.Ranges.{step-field}
 use Rattle.decoded.proofs.Shapes.{step-role}
-use Rattle.free_symbols.specs.Entries.{meaningOf}
-use Rattle.free_symbols.proofs.Tabled.{counts-small, a-leaf, a-compound}
+use Rattle.decoded.specs.Indexes.{meaningOf}
+use Rattle.decoded.proofs.Tabled.{counts-small, a-leaf, a-compound}
 use Rattle.judging.specs.Meanings.{coded, Small, Meant, meantAt}
 use Rattle.judging.proofs.MeaningBytes.{byte-means, means-byte}
 

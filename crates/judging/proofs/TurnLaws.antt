@@ -17,7 +17,7 @@ use Rattle.calculus.specs.Version1.{signature1}
 use Rattle.rendering.specs.Rendering.{Due, binds}
 use Rattle.rendering.specs.Judge.{Meaning, symbol, DuesByIndex, says, taken, turn}
 use Rattle.decoded_list.specs.Statements.{statementOf}
-use Rattle.free_symbols.specs.Entries.{entriesOf}
+use Rattle.decoded.specs.Indexes.{entriesOf}
 use Rattle.judging.specs.Due.{dueFrom, dueOp, operandsDue, isDue, stepAfter, halfAfter, newOf}
 use Rattle.judging.specs.Turns.{Answer}
 use Rattle.judging.proofs.SayLaws.{said-code, read-code}

@@ -11,7 +11,7 @@ use Rattle.list.specs.Faults.{listRungs}
 use Rattle.calculus.specs.Tables.{free}
 use Rattle.calculus.specs.Version1.{signature1}
 use Rattle.rendering.specs.Rendering.{halves}
-use Rattle.rendering.specs.Judge.{Judged}
+use Rattle.rendering.specs.Judge.{VerdictIs}
 use Rattle.rendering.proofs.JudgeLaws.{judge-is-exact}
 use Rattle.decoded.specs.Table.{tableOf}
 use Rattle.decoded.proofs.Checked.{table-checked}
@@ -39,5 +39,5 @@ module _ (t l : List ℕ) (e : least (tableRungs t) ≡ Pass) (p : least (listRu
   judged-once a b x y = verdict-same a b (x .verdict e p ∙ sym (y .verdict e p))
 
   -- accepted exactly if the statements render the table faithfully; 12 and 13 are at the end of the longest faithful beginning
-  pub judged-exactly : (r : Verdict) → StatementsJudged t l r → Judged signature1 halves (tableOf t) (statementsOf l) (verdictOf r)
+  pub judged-exactly : (r : Verdict) → StatementsJudged t l r → VerdictIs signature1 halves (tableOf t) (statementsOf l) (verdictOf r)
   judged-exactly r x = rw (x .verdict e p) (judge-is-exact signature1 halves (tableOf t) (statementsOf l) (table-checked t e) (terms-unrepeated t e))

@@ -28,9 +28,9 @@ use Rattle.rendering.proofs.FreeLaws.{missing-below}
 use Rattle.decoded.specs.Table.{tableOf}
 use Rattle.decoded.proofs.Steps.{sorts-length}
 use Rattle.decoded_list.specs.Statements.{statementAt, statementsOf}
-use Rattle.free_symbols.specs.Entries.{entriesOf, meaningOf}
+use Rattle.decoded.specs.Indexes.{entriesOf, meaningOf}
 use Rattle.free_symbols.specs.Free.{Lists}
-use Rattle.free_symbols.proofs.Tabled.{counts-small}
+use Rattle.decoded.proofs.Tabled.{counts-small}
 use Rattle.judging.specs.declared.State.{State}
 use Rattle.judging.specs.declared.Turn.{Turn}
 use Rattle.judging.specs.declared.Turn.the-variants.{On, Stop}

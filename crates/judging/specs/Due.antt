@@ -15,7 +15,7 @@ use Rattle.calculus.specs.Version1.{signature1}
 use Rattle.rendering.specs.Rendering.{halves, dues}
 use Rattle.rendering.specs.Judge.{Meaning, symbol, DuesByIndex}
 use Rattle.decoded.specs.Table.{stepAt}
-use Rattle.free_symbols.specs.Entries.{meaningOf}
+use Rattle.decoded.specs.Indexes.{meaningOf}
 use Rattle.judging.specs.Meanings.{Held, meantAt}
 
 -- what is due from step k on; where the left half of a split is done, all but that

@@ -1,3 +1,4 @@
+-- What the promises of `judging` speak of.
 pub mod Meanings
 pub mod Due
 pub mod Turns

@@ -21,7 +21,7 @@ use Rattle.rendering.specs.Rendering.{halves}
 use Rattle.rendering.specs.Judge.{Meaning, DuesByIndex, turn, judge}
 use Rattle.decoded.specs.Table.{twoCode, tableOf}
 use Rattle.decoded_list.specs.Statements.{statementOf, statementsOf}
-use Rattle.free_symbols.specs.Entries.{entriesOf}
+use Rattle.decoded.specs.Indexes.{entriesOf}
 use Rattle.free_symbols.specs.Free.{Lists}
 use Rattle.judging.specs.Meanings.{Meant, Held}
 use Rattle.judging.specs.Due.{dueFrom, stepAfter, halfAfter}

@@ -1,1 +1,2 @@
+-- What the promises of `lines` speak of.
 pub mod Lines

@@ -5,19 +5,18 @@ use mathlib.Core.Logic.{_↔_}
 use mathlib.Core.List.{List, [], _∷_}
 use Prim.Native.Nat.{ℕ, zero, suc, _+_, _*_, _-_, _≤_, _<_}
 use native.Mathlib.Omega.{arith}
-use lib.Dec.{leb, eqb}
+use lib.Dec.{leb}
 use lib.ListN.{length, drop, length-drop}
 use borrow.Author.Tests.{leb-true, eqb-true, le-leb, eq-eqb}
-use Rattle.base.specs.Bytes.{byte}
-use Rattle.codes.specs.Marks.{header}
 use Rattle.answers.specs.Ladder.{least}
 use Rattle.answers.specs.declared.Check.the-variants.{Pass}
-use Rattle.answers.proofs.Ladder.{whole-right, least-none, after-pass}
+use Rattle.answers.proofs.Ladder.{least-none, after-pass}
 use Rattle.opening.specs.Opening.{marked, version}
+use Rattle.opening.proofs.Frames.{frame-passed, frame-right}
 use Rattle.list.specs.Layout.{symbols, statements, pastType, typeAt, statementsAt, countsOk, lengthOk, typeOk, statementOk}
 use Rattle.list.specs.Faults.{frameRungs, typeRung, typeRungs, statementRung, listRungs}
 use Rattle.list.proofs.Walks.{type-at-next, type-at-rises}
-use Rattle.answers.proofs.Passes.{layers-passed, whole-passed, first-passed, rung-passes}
+use Rattle.answers.proofs.Passes.{layers-passed, first-passed, rung-passes}
 use Rattle.base.proofs.BothLaws.{both-parts}
 
 -- the header is there with its mark, the version is 1, the counts are within their limits, and the length is exact
@@ -35,25 +34,19 @@ frame-passes s = (λ e. to e, λ f. from f)
   where
     to : least (frameRungs s) ≡ Pass → Framed s
     to e =
-        let (m, e₁) = whole-passed 1 1 (marked 1 s) _ e in
-        let (v, e₂) = whole-passed 2 1 (eqb (version s) 1) _ e₁ in
-        let (c, e₃) = whole-passed 3 1 (countsOk s) _ e₂ in
-        let (l, e₄) = whole-passed 4 1 (lengthOk s) _ e₃ in
-        let (a, b) = both-parts (leb (symbols s) 96) (leb (statements s) 512) c in
-        record { mark-right = m; version-one = eqb-true (version s) 1 v; few-symbols = leb-true (symbols s) 96 a; few-statements = leb-true (statements s) 512 b; length-exact = eqb-true (length s) (statementsAt s + 4 * statements s) l }
+        let f = frame-passed 1 s (countsOk s) (lengthOk s) [] e .0 in
+        let (a, b) = both-parts (leb (symbols s) 96) (leb (statements s) 512) (f .counts-right) in
+        record { mark-right = f .mark-right; version-one = f .version-one; few-symbols = leb-true (symbols s) 96 a; few-statements = leb-true (statements s) 512 b; length-exact = eqb-true (length s) (statementsAt s + 4 * statements s) (f .size-right) }
 
     from : Framed s → least (frameRungs s) ≡ Pass
     from f =
-        whole-right 1 1 (marked 1 s) _ (f .mark-right)
-        ∙ whole-right 2 1 (eqb (version s) 1) _ (eq-eqb (version s) 1 (f .version-one))
-        ∙ whole-right 3 1 (countsOk s) _ (rw (le-leb (symbols s) 96 (f .few-symbols)) (le-leb (statements s) 512 (f .few-statements)))
-        ∙ whole-right 4 1 (lengthOk s) _ (eq-eqb (length s) (statementsAt s + 4 * statements s) (f .length-exact))
+        frame-right 1 s (countsOk s) (lengthOk s) [] record {
+          mark-right = f .mark-right;
+          version-one = f .version-one;
+          counts-right = rw (le-leb (symbols s) 96 (f .few-symbols)) (le-leb (statements s) 512 (f .few-statements));
+          size-right = eq-eqb (length s) (statementsAt s + 4 * statements s) (f .length-exact);
+        }
         ∙ least-none
-
--- a list with the mark has a whole header
-pub header-there : (s : List ℕ) → marked 1 s ≡ true → 8 ≤ length s
-unfolding marked header byte
-header-there s e = leb-true 8 (length s) (both-parts (leb 8 (length s)) _ e .0)
 
 -- where the length is exact, each type ends before the statements begin, and so inside the list
 pub type-inside : (s : List ℕ) (i : ℕ) → length s ≡ statementsAt s + 4 * statements s → i < symbols s → pastType s (typeAt s i) ≤ length s

@@ -1,3 +1,4 @@
+-- What the promises of `list` speak of.
 pub mod Layout
 pub mod Faults
 pub mod TypeOf

@@ -1,1 +1,2 @@
+-- What the promises of `marks` speak of.
 pub mod Put

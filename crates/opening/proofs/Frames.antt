@@ -1,15 +1,17 @@
 -- A frame stands before every rung of a higher number, and what it says where it passes. Assumes nothing.
 use mathlib.Core.Path.{_≡_, refl, _∙_}
 use mathlib.Core.Bool.{Bool, true, false}
+use mathlib.Core.Logic.{_↔_}
 use mathlib.Core.List.{List, [], _∷_, _++_}
 use Prim.Native.Nat.{ℕ, _≤_}
 use native.Mathlib.Omega.{arith}
 use lib.Dec.{T, ltb, leb, eqb}
 use lib.ListN.{length}
-use borrow.Author.Tests.{ltb-true, lt-ltb, leb-true, eqb-true, eq-eqb}
+use borrow.Author.Tests.{ltb-true, lt-ltb, leb-true, le-leb, eqb-true, eq-eqb}
+use Rattle.base.specs.Bytes.{byte, word}
 use Rattle.base.specs.Pick.{both}
-use Rattle.base.proofs.BothLaws.{both-left}
-use Rattle.codes.specs.Marks.{header}
+use Rattle.base.proofs.BothLaws.{both-parts}
+use Rattle.codes.specs.Marks.{mark, header}
 use Rattle.answers.specs.Ladder.{Rung, whole, least}
 use Rattle.answers.specs.Least.{Ordered}
 use Rattle.answers.specs.declared.Check.the-variants.{Pass}
@@ -59,7 +61,29 @@ frame-right file s counts size rs f =
     ∙ whole-right 3 file counts (whole 4 file size ∷ rs) (f .counts-right)
     ∙ whole-right 4 file size rs (f .size-right)
 
--- a file with its mark has a whole header
-pub header-there : (file : ℕ) (s : List ℕ) → marked file s ≡ true → header file ≤ length s
+-- the header is there, and its first bytes are the mark
+pub record Marked (file : ℕ) (s : List ℕ) : Type 0 where
+  pub header-there : header file ≤ length s
+  pub first : byte s 0 ≡ mark file 0
+  pub second : byte s 1 ≡ mark file 1
+  pub third : byte s 2 ≡ mark file 2
+
+-- that is what number 1 tests
+pub marked-means : (file : ℕ) (s : List ℕ) → (marked file s ≡ true) ↔ Marked file s
 unfolding marked
-header-there file s e = leb-true (header file) (length s) (both-left (leb (header file) (length s)) _ e)
+marked-means file s = (λ e. to e, λ m. from m)
+  where
+    to : marked file s ≡ true → Marked file s
+    to e =
+        let (h, a) = both-parts (leb (header file) (length s)) _ e in
+        let (x, b) = both-parts (eqb (byte s 0) (mark file 0)) _ a in
+        let (y, z) = both-parts (eqb (byte s 1) (mark file 1)) _ b in
+        record { header-there = leb-true _ _ h; first = eqb-true _ _ x; second = eqb-true _ _ y; third = eqb-true _ _ z }
+
+    from : Marked file s → marked file s ≡ true
+    from m = rw (le-leb _ _ (m .header-there), eq-eqb _ _ (m .first), eq-eqb _ _ (m .second)) (eq-eqb _ _ (m .third))
+
+-- the two bytes of version 1
+pub version-bytes : (s : List ℕ) → version s ≡ 1 → (byte s 3 ≡ 0) × (byte s 4 ≡ 1)
+unfolding word
+version-bytes s e = (omega arith, omega arith)

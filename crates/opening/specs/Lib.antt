@@ -1,1 +1,2 @@
+-- What the promises of `opening` speak of.
 pub mod Opening

@@ -12,7 +12,7 @@ use Rattle.calculus.specs.Terms.{Term, Act, send, receive, fresh, compare, spli
 use Rattle.calculus.specs.Tables.{Entry, denoted, Closed, Unrepeated, Table, meaning, free}
 use Rattle.calculus.specs.Scope.{In, here, there, All, all-nil, all-cons}
 use Rattle.rendering.specs.Rendering.{Splitting, halves, merged, Due, duesOf, dues, no-more, Beginning}
-use Rattle.rendering.specs.Judge.{Meaning, symbol, Verdict, accepted, notDue, unfinished, meant, termMeant, atEnd, onTurn, judgeFrom, judge, Judged, is-faithful, is-not-due, is-unfinished, JudgeIsExact, VerdictOnce}
+use Rattle.rendering.specs.Judge.{Meaning, symbol, Verdict, accepted, notDue, unfinished, meant, termMeant, atEnd, onTurn, judgeFrom, judge, VerdictIs, is-faithful, is-not-due, is-unfinished, JudgeIsExact, VerdictOnce}
 use Rattle.rendering.proofs.RuleLaws.{follows-take, follows-once}
 use Rattle.rendering.proofs.MeaningLaws.{map-act, act-same, onDue, dues-map, Proper, proper-meant, meant-term}
 use Rattle.rendering.proofs.Base.{all-append, all-of}
@@ -110,7 +110,7 @@ module _ (𝓢 : Signature) where
       ends : {k : List (S 𝓢)} {ns : List (Term 𝓢)} {us : List (ℕ × Due 𝓢 (Term 𝓢))} → Beginning 𝓢 v t k ns us → F 𝓢 es (c .closed) once (map symbol (free 𝓢 t)) (dues 𝓢 v 0 Q) k ns us
       ends f = rw (symbols-terms 𝓢 es (c .closed) once (free 𝓢 t), ← dues-map 𝓢 (termMeant 𝓢 es) v 0 Q, steps-terms es (c .closed) (t .steps)) f
 
-      go : {r : Verdict} → At es (c .closed) once 0 (map symbol (free 𝓢 t)) (dues 𝓢 v 0 Q) ss r → Judged 𝓢 v t ss r
+      go : {r : Verdict} → At es (c .closed) once 0 (map symbol (free 𝓢 t)) (dues 𝓢 v 0 Q) ss r → VerdictIs 𝓢 v t ss r
       go (at-faithful ns f) = is-faithful (ns, begins f)
       go (at-not-due {k = k} j e l ns us f n) = let q : k ≡ j = omega arith in rw q (is-not-due l (begins f) (λ ks ts g. n ks ts (ends g)))
       go (at-unfinished ns f) = is-unfinished (begins f)
@@ -130,7 +130,7 @@ module _ (𝓢 : Signature) where
     one-end : {ns ks : List (Term 𝓢)} {us ts : List (ℕ × Due 𝓢 (Term 𝓢))} → B ss ns us → B ss ks ts → us ≡ ts
     one-end f g = (follows-once 𝓢 (t .entries) f g) .1
 
-    verdicts : {a b : Verdict} → Judged 𝓢 v t ss a → Judged 𝓢 v t ss b → a ≡ b
+    verdicts : {a b : Verdict} → VerdictIs 𝓢 v t ss a → VerdictIs 𝓢 v t ss b → a ≡ b
     verdicts (is-faithful f) (is-faithful g) = refl
     verdicts (is-faithful f) (is-not-due {i = i} l g n) = absurd (shorter (suc i) (f .1) n)
     verdicts (is-faithful f) (is-unfinished g) = let e = one-end (f .1) g in cc

@@ -1,3 +1,4 @@
+-- Laws of `rendering`, for the proofs of the crates above.
 pub mod Base
 pub mod ActLaws
 pub mod RuleLaws

@@ -11,9 +11,9 @@ use Rattle.types.specs.Types.{Ty}
 use Rattle.calculus.specs.Signature.{Signature}
 use Rattle.calculus.specs.Tables.{Table}
 use Rattle.rendering.specs.Rendering.{Splitting}
-use Rattle.rendering.specs.Judge.{Verdict, accepted, Judged, is-faithful, is-not-due, is-unfinished}
+use Rattle.rendering.specs.Judge.{Verdict, accepted, VerdictIs, is-faithful, is-not-due, is-unfinished}
 use Rattle.rendering.specs.Translation.{translation, TranslationIsAccepted}
-use Rattle.rendering.specs.Lists.{differFrom, Differ, differ-nowhere, differ-at, Answer, typesDiffer, judged, onTypes, StatementList, judgeList, FaithfulList, Answered, types-differ, types-equal, DifferIsExact, ListsJudgedExactly, AnswerOnce, AcceptsTheFaithful}
+use Rattle.rendering.specs.Lists.{differFrom, Differ, differ-nowhere, differ-at, Answer, typesDiffer, judged, onTypes, StatementList, judgeList, FaithfulList, ListAnswerIs, types-differ, types-equal, DifferIsExact, ListsJudgedExactly, AnswerOnce, AcceptsTheFaithful}
 use Rattle.rendering.proofs.JudgeLaws.{judge-is-exact, verdict-once}
 use Rattle.rendering.proofs.TranslationLaws.{translation-is-faithful}
 
@@ -71,7 +71,7 @@ differ-not-equal (differ-at {i = i} t d) e = d (ap (λ m. getElem? m i) e)
 
 module _ (𝓢 : Signature) where
   answered : {v : Splitting} {t : Table 𝓢} {widest : List (Ty (𝓢 .types))} {l : StatementList 𝓢} {o : Option ℕ} {r : Verdict}
-      → Differ (l .types) widest o → Judged 𝓢 v t (l .statements) r → Answered 𝓢 v t widest l (onTypes o r)
+      → Differ (l .types) widest o → VerdictIs 𝓢 v t (l .statements) r → ListAnswerIs 𝓢 v t widest l (onTypes o r)
   unfolding onTypes
   answered (differ-nowhere e) j = types-equal e j
   answered (differ-at t d) j = types-differ (differ-at t d)
@@ -80,7 +80,7 @@ module _ (𝓢 : Signature) where
   unfolding judgeList
   lists-judged-exactly same v t widest l c u = answered (differ-is-exact (Ty (𝓢 .types)) same (l .types) widest) (judge-is-exact 𝓢 v t (l .statements) c u)
 
-  answers : {v : Splitting} {t : Table 𝓢} {widest : List (Ty (𝓢 .types))} {l : StatementList 𝓢} {a b : Answer} → Answered 𝓢 v t widest l a → Answered 𝓢 v t widest l b → a ≡ b
+  answers : {v : Splitting} {t : Table 𝓢} {widest : List (Ty (𝓢 .types))} {l : StatementList 𝓢} {a b : Answer} → ListAnswerIs 𝓢 v t widest l a → ListAnswerIs 𝓢 v t widest l b → a ≡ b
   answers (types-differ d) (types-differ e) = ap typesDiffer (differ-once d e)
   answers (types-differ d) (types-equal e j) = absurd (differ-not-equal d e)
   answers (types-equal e j) (types-differ d) = absurd (differ-not-equal d e)
@@ -89,7 +89,7 @@ module _ (𝓢 : Signature) where
   pub answer-once : AnswerOnce 𝓢
   answer-once v t widest l a b p q = answers p q
 
-  faithful-of : {v : Splitting} {t : Table 𝓢} {widest : List (Ty (𝓢 .types))} {l : StatementList 𝓢} {a : Answer} → Answered 𝓢 v t widest l a → a ≡ judged accepted → FaithfulList 𝓢 v t widest l
+  faithful-of : {v : Splitting} {t : Table 𝓢} {widest : List (Ty (𝓢 .types))} {l : StatementList 𝓢} {a : Answer} → ListAnswerIs 𝓢 v t widest l a → a ≡ judged accepted → FaithfulList 𝓢 v t widest l
   faithful-of (types-differ d) e = absurd (let z : _≡_ {A = ℕ} 0 1 = cc in omega arith)
   faithful-of (types-equal e (is-faithful f)) q = record { sameTypes = e; renders = f }
   faithful-of (types-equal e (is-not-due l f n)) q = absurd (let z : _≡_ {A = ℕ} 0 1 = cc in omega arith)

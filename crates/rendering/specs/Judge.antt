@@ -112,17 +112,17 @@ module _ (𝓢 : Signature) where
   -- ── Statements ──
 
   -- what a verdict says. 12: the statements before i are the longest faithful beginning. 13: the whole list is one, and step n is the first unfinished
-  pub data Judged (v : Splitting) (t : Table 𝓢) (ss : List (Statement 𝓢)) : Verdict → Type 0 where
-    is-faithful : Faithful 𝓢 v t ss → Judged v t ss accepted
+  pub data VerdictIs (v : Splitting) (t : Table 𝓢) (ss : List (Statement 𝓢)) : Verdict → Type 0 where
+    is-faithful : Faithful 𝓢 v t ss → VerdictIs v t ss accepted
     is-not-due : {i : ℕ} {ns : List (Term 𝓢)} {ws : Dues 𝓢} → i < length ss → Beginning 𝓢 v t (take i ss) ns ws
-        → ((ns′ : List (Term 𝓢)) (ws′ : Dues 𝓢) → Beginning 𝓢 v t (take (suc i) ss) ns′ ws′ → ⊥) → Judged v t ss (notDue i)
+        → ((ns′ : List (Term 𝓢)) (ws′ : Dues 𝓢) → Beginning 𝓢 v t (take (suc i) ss) ns′ ws′ → ⊥) → VerdictIs v t ss (notDue i)
     is-unfinished : {n : ℕ} {ns : List (Term 𝓢)} {w : Due 𝓢 (Term 𝓢)} {ws : Dues 𝓢}
-        → Beginning 𝓢 v t ss ns ((n, w) ∷ ws) → Judged v t ss (unfinished n)
+        → Beginning 𝓢 v t ss ns ((n, w) ∷ ws) → VerdictIs v t ss (unfinished n)
 
   -- the judge accepts exactly the faithful lists, and its places are exact
   abbrev pub JudgeIsExact : Type 0
-  JudgeIsExact = (v : Splitting) (t : Table 𝓢) (ss : List (Statement 𝓢)) → Checked 𝓢 t → Unrepeated 𝓢 0 (t .entries) → Judged v t ss (judge v t ss)
+  JudgeIsExact = (v : Splitting) (t : Table 𝓢) (ss : List (Statement 𝓢)) → Checked 𝓢 t → Unrepeated 𝓢 0 (t .entries) → VerdictIs v t ss (judge v t ss)
 
   -- no second answer
   abbrev pub VerdictOnce : Type 0
-  VerdictOnce = (v : Splitting) (t : Table 𝓢) (ss : List (Statement 𝓢)) (a b : Verdict) → Judged v t ss a → Judged v t ss b → a ≡ b
+  VerdictOnce = (v : Splitting) (t : Table 𝓢) (ss : List (Statement 𝓢)) (a b : Verdict) → VerdictIs v t ss a → VerdictIs v t ss b → a ≡ b

@@ -11,7 +11,7 @@ use Rattle.calculus.specs.Terms.{Statement}
 use Rattle.calculus.specs.Tables.{Unrepeated, Table}
 use Rattle.calculus.specs.Typing.{Checked}
 use Rattle.rendering.specs.Rendering.{Splitting, Faithful}
-use Rattle.rendering.specs.Judge.{Verdict, accepted, judge, Judged}
+use Rattle.rendering.specs.Judge.{Verdict, accepted, judge, VerdictIs}
 
 -- the first place, from number i on, at which two lists differ; where one is the beginning of the other, the place where it ends
 unfoldable pub differFrom : {X : Type 0} → Discrete X → ℕ → List X → List X → Option ℕ
@@ -55,21 +55,21 @@ module _ (𝓢 : Signature) where
     pub renders : Faithful 𝓢 v t (l .statements)
 
   -- what an answer says
-  pub data Answered (v : Splitting) (t : Table 𝓢) (widest : List (Ty (𝓢 .types))) (l : StatementList) : Answer → Type 0 where
-    types-differ : {i : ℕ} → Differ (l .types) widest (some i) → Answered v t widest l (typesDiffer i)
-    types-equal : {r : Verdict} → l .types ≡ widest → Judged 𝓢 v t (l .statements) r → Answered v t widest l (judged r)
+  pub data ListAnswerIs (v : Splitting) (t : Table 𝓢) (widest : List (Ty (𝓢 .types))) (l : StatementList) : Answer → Type 0 where
+    types-differ : {i : ℕ} → Differ (l .types) widest (some i) → ListAnswerIs v t widest l (typesDiffer i)
+    types-equal : {r : Verdict} → l .types ≡ widest → VerdictIs 𝓢 v t (l .statements) r → ListAnswerIs v t widest l (judged r)
 
   -- ── Statements ──
 
   -- the judge's answer is right
   abbrev pub ListsJudgedExactly : Type 0
   ListsJudgedExactly = (same : Discrete (Ty (𝓢 .types))) (v : Splitting) (t : Table 𝓢) (widest : List (Ty (𝓢 .types))) (l : StatementList)
-      → Checked 𝓢 t → Unrepeated 𝓢 0 (t .entries) → Answered v t widest l (judgeList same v t widest l)
+      → Checked 𝓢 t → Unrepeated 𝓢 0 (t .entries) → ListAnswerIs v t widest l (judgeList same v t widest l)
 
   -- no second answer
   abbrev pub AnswerOnce : Type 0
   AnswerOnce = (v : Splitting) (t : Table 𝓢) (widest : List (Ty (𝓢 .types))) (l : StatementList) (a b : Answer)
-      → Answered v t widest l a → Answered v t widest l b → a ≡ b
+      → ListAnswerIs v t widest l a → ListAnswerIs v t widest l b → a ≡ b
 
   -- accepted exactly if faithful
   abbrev pub AcceptsTheFaithful : Type 0

@@ -1,1 +1,2 @@
+-- What the promises of `room_counts` speak of.
 pub mod Room

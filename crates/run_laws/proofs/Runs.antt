@@ -31,7 +31,7 @@ use Rattle.decoded.proofs.Checked.{table-checked}
 use Rattle.decoded.proofs.ValueLaws.{values-length}
 use Rattle.decoded.proofs.TraceValues.{trace-values}
 use Rattle.decoded_list.specs.Statements.{statementsOf}
-use Rattle.translate.proofs.Ranged.{in-range}
+use Rattle.statement_counts.proofs.Ranged.{in-range}
 use Rattle.machine.specs.Statements.{traceOf}
 use Rattle.run_laws.specs.Runs.{AcceptedRunsKeepDemand3}
 use Rattle.run_laws.proofs.Agreeing.{typed-same}

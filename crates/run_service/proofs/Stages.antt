@@ -1,7 +1,7 @@
 -- The stages of a run, each passed on or left behind. Assumes nothing.
 use mathlib.Core.Path.{_≡_, refl, sym, ap, _∙_}
 use mathlib.Core.List.{List}
-use Prim.Native.Nat.{ℕ}
+use Prim.Native.Nat.{ℕ, _≤_}
 use native.Mathlib.Omega.{arith}
 use lib.ListN.{length}
 use Rattle.answers.specs.Ladder.{least}
@@ -30,7 +30,7 @@ use Rattle.machine.specs.Statements.{StatementsRun}
 use Rattle.machine.specs.declared.Ran.{Ran}
 use Rattle.starting.specs.Fourteen.{Fourteen, starts, StartsChecked}
 use Rattle.type_lists.specs.Lists.{typesTo}
-use Rattle.type_service.specs.Services.{refusal, IsWidest, Room, enough, short}
+use Rattle.type_service.specs.Services.{IsWidest, Room, enough, short}
 use Rattle.judge_service.specs.Judged.{Judged}
 use Rattle.judge_service.proofs.Exact.{accepted-is-faithful}
 use Rattle.run_service.specs.Runs.{valueNeed, messageNeed, Sound, not-accepted, trace-faulty, start-lacks, values-short, messages-short, Runnable, RunChecked, noRun, RunAnswered, refused, ran}
@@ -61,46 +61,47 @@ accepted t l d j =
 pub as-many : (t l : List ℕ) (d : Decoded l) → Accepted t l d → symbols l ≡ table.symbols t
 as-many t l d a = sym (decoded-symbols l d) ∙ ap (λ (k : List T). length k) (a .same-types) ∙ listed-length (a .Γ) 0 (table.symbols t)
 
-pub decoded-list : (t l : List ℕ) → Bytes l → Judged t l Pass → Decoded l
-decoded-list t l b j = list-decoded l (freeCount t) b (accepted-is-faithful t l Pass j refl .in-order)
-
 -- ── The tests ──
+
+-- the list is accepted, the trace has no fault, and number 14 was tested, with the answer c
+pub record Started (t l tr : List ℕ) (c : Check) : Type 0 where
+  pub accepted : Judged t l Pass
+  pub trace-sound : least (traceRungs tr) ≡ Pass
+  pub decoded : Decoded l
+  pub starts : Fourteen t (decoded .types) tr c
+
+pub started : (t l tr : List ℕ) → Bytes l → Judged t l Pass → least (traceRungs tr) ≡ Pass → (c : Check) → StartsChecked t l tr c → Started t l tr c
+started t l tr b j e c s =
+    let d : Decoded l = list-decoded l (freeCount t) b (accepted-is-faithful t l Pass j refl .in-order) in
+    let k = accepted t l d j in
+    record { accepted = j; trace-sound = e; decoded = d; starts = s .checked (k .widest .sound) (freeCount t) (k .in-order) e d (as-many t l d k) }
+
+pub sound : (t l tr : List ℕ) (c : Check) → Started t l tr c → c ≡ Pass → Sound t l tr
+sound t l tr c s q = record { accepted = s .accepted; trace-sound = s .trace-sound; decoded = s .decoded; starts = rw q at (s .starts) }
 
 module _ (t l tr z y : List ℕ) where
   -- the judge's refusal
   pub judge-stops : (a : Check) (x : Refusal) → Judged t l a → a ≡ Refuse x → RunChecked t l tr z y a
   judge-stops a x j e = rw e (not-accepted (rw e at j))
 
-  module _ (b : Bytes l) (j : Judged t l Pass) where
-    -- the trace's
-    pub trace-stops : (a : Check) (x : Refusal) → a ≡ least (traceRungs tr) → a ≡ Refuse x → RunChecked t l tr z y a
-    trace-stops a x e q = rw q (trace-faulty j (sym e ∙ q))
+  -- the trace's
+  pub trace-stops : Judged t l Pass → (a : Check) (x : Refusal) → a ≡ least (traceRungs tr) → a ≡ Refuse x → RunChecked t l tr z y a
+  trace-stops j a x e q = rw q (trace-faulty j (sym e ∙ q))
 
-    module _ (a : Check) (e : a ≡ least (traceRungs tr)) (q : a ≡ Pass) where
-      fourteen : (c : Check) → StartsChecked t l tr c → Fourteen t (decoded-list t l b j .types) tr c
-      fourteen c s =
-          let d = decoded-list t l b j in
-          let k = accepted t l d j in
-          s .checked (k .widest .sound) (freeCount t) (k .in-order) (sym e ∙ q) d (as-many t l d k)
+  -- number 14
+  pub starts-stop : (c : Check) (x : Refusal) → Started t l tr c → c ≡ Refuse x → RunChecked t l tr z y c
+  starts-stop c x s q = rw q (start-lacks (s .accepted) (s .trace-sound) (s .decoded) (rw q at (s .starts)))
 
-      -- number 14
-      pub starts-stop : (c : Check) (x : Refusal) → StartsChecked t l tr c → c ≡ Refuse x → RunChecked t l tr z y c
-      starts-stop c x s f = rw f (start-lacks j (sym e ∙ q) (decoded-list t l b j) (rw f at (fourteen c s)))
+  module _ (s : Sound t l tr) where
+    -- number 15 of the values' buffer
+    pub values-stop : (need : ℕ) (d : Check) (x : Refusal) → need ≡ valueNeed l tr → Room need (length z) d → d ≡ Refuse x → RunChecked t l tr z y d
+    values-stop need d x n (enough h) g = let v : _≡_ {A = ℕ} 0 1 = cc in absurd (omega arith)
+    values-stop need d x n (short h) g = rw n (values-short s (rw n at h))
 
-      module _ (c : Check) (s : StartsChecked t l tr c) (f : c ≡ Pass) where
-        pub sound : Sound t l tr
-        sound = record { accepted = j; trace-sound = sym e ∙ q; decoded = decoded-list t l b j; starts = rw f at (fourteen c s) }
-
-        -- number 15 of the values' buffer
-        pub values-stop : (need : ℕ) (d : Check) (x : Refusal) → need ≡ valueNeed l tr → Room need (length z) d → d ≡ Refuse x → RunChecked t l tr z y d
-        values-stop need d x n (enough h) g = let v : _≡_ {A = ℕ} 0 1 = cc in absurd (omega arith)
-        values-stop need d x n (short h) g = rw n (values-short sound (rw n at h))
-
-        -- of the messages' buffer, or no refusal
-        pub messages-left : (need more : ℕ) (d r : Check) → need ≡ valueNeed l tr → Room need (length z) d → d ≡ Pass → more ≡ messageNeed l → Room more (length y) r → RunChecked t l tr z y r
-        messages-left need more d r n (short h) g m o = let v : _≡_ {A = ℕ} 0 1 = cc in absurd (omega arith)
-        messages-left need more d r n (enough h) g m (short o) = rw m (messages-short sound (rw n at h) (rw m at o))
-        messages-left need more d r n (enough h) g m (enough o) = record { sound = sound; value-room = rw n at h; message-room = rw m at o }
+    -- of the messages' buffer, or no refusal
+    pub messages-left : valueNeed l tr ≤ length z → (need : ℕ) (r : Check) → need ≡ messageNeed l → Room need (length y) r → RunChecked t l tr z y r
+    messages-left h need r n (short o) = rw n (messages-short s h (rw n at o))
+    messages-left h need r n (enough o) = record { sound = s; value-room = h; message-room = rw n at o }
 
   -- ── The run ──
 

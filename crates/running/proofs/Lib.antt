@@ -1,3 +1,4 @@
+-- Laws of `running`, for the proofs of the crates above.
 pub mod Registers
 pub mod Binding
 pub mod Simulation

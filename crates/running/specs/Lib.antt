@@ -1,3 +1,4 @@
+-- The definitions and statements of `running`, in the order to read them.
 pub mod Values
 pub mod Acts
 pub mod Lists

@@ -1,3 +1,4 @@
+-- What the promises of `slots` speak of.
 pub mod Terms
 pub mod Slots
 pub mod Push

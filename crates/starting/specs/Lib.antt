@@ -1,1 +1,2 @@
+-- What the promises of `starting` speak of.
 pub mod Fourteen

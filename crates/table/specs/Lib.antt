@@ -1,2 +1,3 @@
+-- What the promises of `table` speak of.
 pub mod Faults
 pub mod Read

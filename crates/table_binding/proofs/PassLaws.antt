@@ -13,7 +13,6 @@ use lib.Seq.{getD-at}
 use borrow.Author.Tests.{eq-eqb, ne-eqb}
 use Rattle.base.specs.Pick.{both}
 use Rattle.marks.specs.Put.{Put, blank}
-use Rattle.table_layout.specs.Layout.{terms}
 use Rattle.table_binding.specs.Binding.{binds, binder, larger, fieldLatest, latest}
 use Rattle.table_binding.specs.Tables.{Binders, Latest}
 

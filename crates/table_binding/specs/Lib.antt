@@ -1,2 +1,3 @@
+-- What the promises of `table_binding` speak of.
 pub mod Binding
 pub mod Tables

@@ -8,7 +8,7 @@ use Rattle.base.specs.Bytes.{byte}
 use Rattle.base.specs.Pick.{pick, both}
 use Rattle.codes.specs.Rows.{nameRole, variableRole, limitsOf}
 use Rattle.opening.specs.Opening.{version}
-use Rattle.entries.specs.Fields.{code, field, role, entryOk}
+use Rattle.entries.specs.Fields.{field, role, entryOk}
 
 -- the counts S, T and P
 abbrev pub symbols : List ℕ → ℕ

@@ -1,2 +1,3 @@
+-- What the promises of `table_layout` speak of.
 pub mod Layout
 pub mod Faults

@@ -1,1 +1,2 @@
+-- What the promises of `table_naming` speak of.
 pub mod Naming

@@ -4,19 +4,17 @@ use mathlib.Core.Bool.{true}
 use mathlib.Core.List.{List, _++_}
 use Prim.Native.Nat.{ℕ, _+_, _*_}
 use native.Mathlib.Omega.{arith}
-use lib.Dec.{leb, eqb}
 use lib.ListN.{length}
-use borrow.Author.Tests.{eqb-true}
 use Rattle.base.specs.Bytes.{byte}
-use Rattle.codes.specs.Marks.{mark, header}
+use Rattle.codes.specs.Marks.{mark}
 use Rattle.codes.specs.Rows.{width}
 use Rattle.opening.specs.Opening.{marked}
+use Rattle.opening.proofs.Frames.{marked-means}
 use Rattle.trace.specs.Layout.{values, supplies, startings, startsAt, suppliesAt, indexPlace, index}
 use Rattle.entries.specs.Words.{Bytes}
 use Rattle.entries.specs.Tiling.{listed, joined, stretch, numberBytes, entryOf}
 use Rattle.trace.specs.Decoded.{traceOf, headerBytes, traceBytes}
 use Rattle.trace.specs.Checked.{Framed}
-use Rattle.base.proofs.BothLaws.{both-left, both-right}
 use Rattle.entries.proofs.Tiling.{listed-length, listed-add, stretch-whole, joined-all, word-bytes, entries-bytes}
 
 -- 16-bit indexes from a base offset on, written again
@@ -33,14 +31,8 @@ indexes-bytes s h base n =
 
 -- the mark of a marked file
 mark-bytes : (s : List ℕ) → marked 2 s ≡ true → listed (mark 2) 0 3 ≡ stretch s 0 3
-unfolding marked listed
-mark-bytes s e =
-    let e0 = both-right (leb (header 2) (length s)) _ e in
-    let e1 = both-right (eqb (byte s 0) (mark 2 0)) _ e0 in
-    let a : byte s 0 ≡ mark 2 0 = eqb-true _ _ (both-left (eqb (byte s 0) (mark 2 0)) _ e0) in
-    let b : byte s 1 ≡ mark 2 1 = eqb-true _ _ (both-left (eqb (byte s 1) (mark 2 1)) _ e1) in
-    let c : byte s 2 ≡ mark 2 2 = eqb-true _ _ (both-right (eqb (byte s 1) (mark 2 1)) _ e1) in
-    rw (← a, ← b, ← c)
+unfolding listed
+mark-bytes s e = let m = marked-means 2 s .0 e in rw (← m .first, ← m .second, ← m .third)
 
 -- parts that follow each other
 stretches : (s : List ℕ) (p n q m : ℕ) → q ≡ p + n → stretch s p n ++ stretch s q m ≡ stretch s p (n + m)

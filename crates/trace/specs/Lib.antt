@@ -1,3 +1,4 @@
+-- What the promises of `trace` speak of.
 pub mod Layout
 pub mod Faults
 pub mod Checked

@@ -1,55 +1,51 @@
 -- Building a term in the code's order: left part, right part, then the statement that makes it. Assumes that 1 to 9 pass.
 use mathlib.Core.Path.{_≡_, refl, _∙_}
-use mathlib.Core.Bool.{Bool, true, false}
+use mathlib.Core.Bool.{true, false}
 use mathlib.Core.List.{List, [], _∷_}
 use Prim.Native.Nat.{ℕ, zero, suc, _+_, _-_, _*_, _<_, _≤_}
 use native.Mathlib.Omega.{arith}
-use lib.Dec.{eqb}
 use lib.ListN.{length, take, drop, length-append}
-use borrow.Author.Tests.{eqb-true, eqb-false}
+use borrow.Rule.Slice.PartMut.{putMid}
 use Rattle.answers.specs.Ladder.{least}
 use Rattle.answers.specs.declared.Check.the-variants.{Pass}
 use Rattle.buffers.specs.Over.{over}
 use Rattle.entries.specs.Fields.{code}
 use Rattle.table_layout.specs.Layout.{terms, termsAt, termField}
 use Rattle.table.specs.Faults.{tableRungs}
-use Rattle.rendering.specs.Judge.{Meaning, term, meantBy}
+use Rattle.rendering.specs.Judge.{Meaning, term}
 use Rattle.entries.specs.Tiling.{joined}
 use Rattle.decoded_list.specs.Bytes.{statementBytes, twoOp}
-use Rattle.free_symbols.specs.Entries.{meaningOf, kindOf}
-use Rattle.translate.specs.Stepwise.{Making, registerAt, built, making, after}
-use Rattle.translate.specs.Registers.{held, Held, Ready, Done, heldAt, registerIn, settled, makeBytes, Noted}
-use Rattle.translate.proofs.HeldLaws.{noted-term, register-held}
-use Rattle.free_symbols.proofs.Tabled.{counts-small, a-leaf, a-compound, IsCompound}
+use Rattle.decoded.specs.Indexes.{kindOf}
+use Rattle.registers.specs.Held.{settled, Noted}
+use Rattle.registers.proofs.HeldLaws.{noted-term}
+use Rattle.registers.proofs.RegisterLaws.{register-right}
+use Rattle.translate.specs.Stepwise.{Making, built, making, after}
+use Rattle.translate.specs.Making.{Ready, Done, makeBytes}
+use Rattle.decoded.proofs.Tabled.{counts-small, IsCompound}
 use Rattle.translate.proofs.BuiltLaws.{built-grows, built-settled, Unsettled, not-settled, built-made}
-use Rattle.translate.proofs.Writing.{done-length, ready-first, ready-second, done-nothing}
+use Rattle.translate.proofs.Writing.{ready-first, ready-second, ready-as, done-both, done-nothing, done-fits}
 
 -- as many registers by another name
-pub done-as : {r : Making} {symbols terms out o : List ℕ} {p q n : ℕ} → p ≡ q → Done r symbols terms p out o n → Done r symbols terms q out o n
+done-as : {r : Making} {symbols terms out o : List ℕ} {p q n : ℕ} → p ≡ q → Done r symbols terms p out o n → Done r symbols terms q out o n
 done-as e d = rw (← e) d
 
--- two terms: ready for the first
-pub two-first : (s : List ℕ) (i j : ℕ) (ms : List Meaning) {symbols array out : List ℕ} {registers : ℕ}
-    → Ready (after (built s i) (built s j)) ms symbols array registers out → Ready (built s i) ms symbols array registers out
-two-first s i j ms r = ready-first (built s i) (built s j) ms (omega (arith, built-grows s j (built s i ms .1))) r
+-- two terms, one after the other
+module _ (s : List ℕ) (i j : ℕ) {ms : List Meaning} {symbols array out : List ℕ} {registers : ℕ} (r : Ready (after (built s i) (built s j)) ms symbols array registers out) where
+  pub two-first : Ready (built s i) ms symbols array registers out
+  two-first = ready-first (built s i) (built s j) ms (omega (arith, built-grows s j (built s i ms .1))) r
+
+  module _ {array₁ o : List ℕ} {a at : ℕ} (p : at ≡ 4 * a) (d : Done (built s i ms) symbols array₁ (registers + a) out o a) where
+    pub two-fits : (registers + a ≤ 224) × (at ≤ length o)
+    two-fits = done-fits ms p two-first d
+
+    pub two-second : Ready (built s j) (built s i ms .1) symbols array₁ (registers + a) (take (length o - at) (drop at o))
+    two-second = ready-second (built s i) (built s j) ms p r d
+
+    pub two-done : {array₂ ys : List ℕ} {b : ℕ} → Done (built s j (built s i ms .1)) symbols array₂ (registers + a + b) (take (length o - at) (drop at o)) ys b
+        → Done (after (built s i) (built s j) ms) symbols array₂ (registers + (a + b)) out (putMid at (length o - at) o ys) (a + b)
+    two-done {b = b} k = let sum : registers + a + b ≡ registers + (a + b) = omega arith in done-as sum (done-both p d k)
 
 module _ (s : List ℕ) (e : least (tableRungs s) ≡ Pass) where
-  -- the register of a term by the arrays
-  pub register-right : (i : ℕ) → i < terms s → (ms : List Meaning) {symbols array : List ℕ} {registers : ℕ} → Held ms symbols array registers
-      → registerIn s i symbols array registers ≡ registerAt s ms i
-  unfolding registerIn registerAt heldAt meaningOf meantBy
-  register-right i l ms {symbols} {array} {registers} h = register-held ms (meaningOf s i) (heldAt s i symbols array) registers (go (eqb (code s 0 (termsAt s) i) 0) refl) (h .count)
-    where
-      go : (b : Bool) → eqb (code s 0 (termsAt s) i) 0 ≡ b → heldAt s i symbols array ≡ held ms (meaningOf s i)
-      go true q =
-          let f = a-leaf s e i l (eqb-true _ _ q) in
-          let k = counts-small s e in
-          rw (q, f .0) (h .of-symbols .at (termField s i 0) (omega (arith, f .1)))
-      go false q =
-          let f = a-compound s e i l (eqb-false _ _ q) in
-          let k = counts-small s e in
-          rw (q, f .entry) (h .of-terms .at i (omega arith))
-
   -- the statement that makes a compound term is written, and its register is noted
   op-right : (i : ℕ) → IsCompound s i → ¬ (code s 0 (termsAt s) i ≡ 0) → twoOp (kindOf (code s 0 (termsAt s) i)) ≡ code s 0 (termsAt s) i + 6
   unfolding twoOp kindOf
@@ -62,14 +58,9 @@ module _ (s : List ℕ) (e : least (tableRungs s) ≡ Pass) where
       go (suc (suc (suc op))) l n = absurd (omega arith)
 
   module _ (i : ℕ) (l : i < terms s) where
-    abbrev L : List Meaning → Making
-    L = built s (termField s i 0)
-
-    abbrev R : List Meaning → Making
-    R = built s (termField s i 1)
-
-    right-grows : (ms : List Meaning) → length (L ms .1) ≤ length (R (L ms .1) .1)
-    right-grows ms = omega (arith, built-grows s (termField s i 1) (L ms .1))
+    -- its parts, one after the other
+    abbrev partsBuilt : List Meaning → Making
+    partsBuilt = after (built s (termField s i 0)) (built s (termField s i 1))
 
     make-grows : (ms : List Meaning) → length ms ≤ length (making s i ms .1)
     unfolding making
@@ -86,51 +77,40 @@ module _ (s : List ℕ) (e : least (tableRungs s) ≡ Pass) where
         pub compound : IsCompound s i
         compound = unsettled .compound
 
-        pub left-there : termField s i 0 < terms s
+        left-there : termField s i 0 < terms s
         left-there = omega (arith, compound .left-lower)
 
-        pub right-there : termField s i 1 < terms s
+        right-there : termField s i 1 < terms s
         right-there = omega (arith, compound .right-lower)
 
-        all-ready : Ready (after (after L R) (making s i)) ms symbols array registers out
-        all-ready = let m = built-made s e i l ms unsettled in record { holds = r .holds; fits = rw m at (r .fits); room = rw m at (r .room) }
+        all-ready : Ready (after partsBuilt (making s i)) ms symbols array registers out
+        all-ready = ready-as ms (built-made s e i l ms unsettled) r
 
-        pub all-done : {symbols′ array′ left : List ℕ} {registers′ n : ℕ} → Done (after (after L R) (making s i) ms) symbols′ array′ registers′ out left n → Done (built s i ms) symbols′ array′ registers′ out left n
-        all-done d = rw (built-made s e i l ms unsettled) d
+        pub parts-ready : Ready partsBuilt ms symbols array registers out
+        parts-ready = ready-first partsBuilt (making s i) ms (make-grows (partsBuilt ms .1)) all-ready
 
-        both-ready : Ready (after L R) ms symbols array registers out
-        both-ready = ready-first (after L R) (making s i) ms (make-grows (after L R ms .1)) all-ready
+        module _ {array₁ o : List ℕ} {n at : ℕ} (p : at ≡ 4 * n) (d : Done (partsBuilt ms) symbols array₁ (registers + n) out o n) where
+          make-ready : Ready (making s i) (partsBuilt ms .1) symbols array₁ (registers + n) (take (length o - at) (drop at o))
+          make-ready = ready-second partsBuilt (making s i) ms p all-ready d
 
-        pub left-ready : Ready L ms symbols array registers out
-        left-ready = ready-first L R ms (right-grows ms) both-ready
+          pub make-fits : (registers + n ≤ 223) × (at ≤ length o) × (4 ≤ length (take (length o - at) (drop at o)))
+          unfolding making
+          make-fits =
+              (omega (arith, d .holds .count, make-ready .fits, length-append (partsBuilt ms .1) (term i ∷ [])), done-fits {f = partsBuilt} ms p parts-ready d .1, make-ready .room)
 
-        module _ {array₁ o : List ℕ} (a : ℕ) {at : ℕ} (p : at ≡ 4 * a) (d : Done (L ms) symbols array₁ (registers + a) out o a) where
-          -- what the code needs after the left part
-          pub left-fits : (registers + a ≤ 224) × (at ≤ length o)
-          left-fits = (omega (arith, d .holds .count, left-ready .fits), omega (arith, d .count, left-ready .room, done-length (left-ready .room) d))
-
-          pub right-ready : Ready R (L ms .1) symbols array₁ (registers + a) (take (length o - at) (drop at o))
-          right-ready = ready-second L R ms p both-ready d
-
-          module _ {array₂ o₂ : List ℕ} (b : ℕ) {at₂ : ℕ} (p₂ : at₂ ≡ 4 * (a + b)) (d₂ : Done (after L R ms) symbols array₂ (registers + (a + b)) out o₂ (a + b)) where
-            pub make-ready : Ready (making s i) (after L R ms .1) symbols array₂ (registers + (a + b)) (take (length o₂ - at₂) (drop at₂ o₂))
-            make-ready = ready-second (after L R) (making s i) ms p₂ all-ready d₂
-
-            pub make-fits : (registers + (a + b) ≤ 223) × (at₂ ≤ length o₂) × (4 ≤ length (take (length o₂ - at₂) (drop at₂ o₂)))
-            unfolding making
-            make-fits = (
-              omega (arith, d₂ .holds .count, make-ready .fits, length-append (after L R ms .1) (term i ∷ [])),
-              omega (arith, d₂ .count, both-ready .room, done-length (both-ready .room) d₂),
-              make-ready .room,
-            )
-
-            pub made-done : {array₃ zs : List ℕ} → zs ≡ over (makeBytes s i symbols array₂ (registers + (a + b))) (take (length o₂ - at₂) (drop at₂ o₂)) → Noted array₂ array₃ i (registers + (a + b))
-                → Done (making s i (after L R ms .1)) symbols array₃ (registers + (a + b) + 1) (take (length o₂ - at₂) (drop at₂ o₂)) zs 1
+          module _ {array₂ zs : List ℕ} (w : zs ≡ over (makeBytes s i symbols array₁ (registers + n)) (take (length o - at) (drop at o))) (z : Noted array₁ array₂ i (registers + n + 1)) where
+            making-done : Done (making s i (partsBuilt ms .1)) symbols array₂ (registers + n + 1) (take (length o - at) (drop at o)) zs 1
             unfolding making makeBytes joined statementBytes
-            made-done w z =
+            making-done =
                 let k = counts-small s e in
+                let ns : List Meaning = partsBuilt ms .1 in
                 record {
                   count = refl;
-                  holds = noted-term (after L R ms .1) symbols array₂ _ i (registers + (a + b)) (omega arith) (d₂ .holds) z;
-                  written = w ∙ rw (register-right (termField s i 0) left-there (after L R ms .1) (d₂ .holds), register-right (termField s i 1) right-there (after L R ms .1) (d₂ .holds), op-right i compound (compound .not-zero));
+                  holds = noted-term ns symbols array₁ _ i (registers + n) (omega arith) (d .holds) z;
+                  written = w ∙ rw (register-right s e (termField s i 0) left-there ns (d .holds), register-right s e (termField s i 1) right-there ns (d .holds), op-right i compound (compound .not-zero));
                 }
+
+            pub made-done : Done (built s i ms) symbols array₂ (registers + (n + 1)) out (putMid at (length o - at) o zs) (n + 1)
+            made-done =
+                let sum : registers + n + 1 ≡ registers + (n + 1) = omega arith in
+                rw (built-made s e i l ms unsettled) (done-as sum (done-both p d making-done))

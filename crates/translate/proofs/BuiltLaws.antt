@@ -20,11 +20,11 @@ use Rattle.rendering.specs.Judge.{Meaning, symbol, term, meantBy, meant}
 use Rattle.rendering.specs.Translation.{isBuilt, parts, buildEach, buildEntry, buildTerm}
 use Rattle.decoded.proofs.Passed.{table-passed}
 use Rattle.decoded.proofs.Holding.{table-closed, entries-length}
-use Rattle.free_symbols.specs.Entries.{entriesOf, meaningOf}
-use Rattle.translate.specs.Stepwise.{Making, registerAt, built, making, after}
-use Rattle.translate.specs.Registers.{HeldTerms, settled}
-use Rattle.translate.proofs.HeldLaws.{held-built, held-unbuilt}
-use Rattle.free_symbols.proofs.Tabled.{counts-small, a-leaf, a-compound, IsCompound}
+use Rattle.decoded.specs.Indexes.{entriesOf, meaningOf}
+use Rattle.registers.specs.Held.{registerAt, HeldTerms, settled}
+use Rattle.registers.proofs.HeldLaws.{held-built, held-unbuilt}
+use Rattle.translate.specs.Stepwise.{Making, built, making, after}
+use Rattle.decoded.proofs.Tabled.{counts-small, a-leaf, a-compound, IsCompound}
 
 -- ── The bound on the depth ──
 

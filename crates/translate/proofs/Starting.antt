@@ -1,6 +1,6 @@
 -- The whole translation: what its loop starts with. Assumes that 1 to 9 pass.
 use mathlib.Core.Path.{_≡_, refl}
-use mathlib.Core.List.{List, [], _∷_, _++_, map, append-nil, append-assoc}
+use mathlib.Core.List.{List}
 use Prim.Native.Nat.{ℕ, _*_, _≤_}
 use lib.ListN.{length}
 use Rattle.answers.specs.Ladder.{least}
@@ -8,34 +8,24 @@ use Rattle.answers.specs.declared.Check.the-variants.{Pass}
 use Rattle.marks.specs.Put.{blank}
 use Rattle.table_layout.specs.Layout.{steps}
 use Rattle.table.specs.Faults.{tableRungs}
-use Rattle.calculus.specs.Tables.{free}
 use Rattle.calculus.specs.Version1.{signature1}
 use Rattle.rendering.specs.Rendering.{halves}
-use Rattle.rendering.specs.Judge.{Meaning, symbol, term}
 use Rattle.rendering.specs.Translation.{translation, translated}
 use Rattle.decoded.specs.Table.{tableOf}
-use Rattle.free_symbols.specs.Entries.{entriesOf}
-use Rattle.translate.specs.Stepwise.{stepsMade, atStart}
-use Rattle.translate.specs.Registers.{HeldSymbols, HeldTerms, Ready}
-use Rattle.translate.proofs.HeldLaws.{held-none, symbol-kept}
-use Rattle.translate.proofs.Ranged.{all-fits}
+use Rattle.decoded.specs.Indexes.{entriesOf}
+use Rattle.registers.specs.Held.{atStart, HeldSymbols}
+use Rattle.registers.proofs.Marking.{none-held}
+use Rattle.translate.specs.Stepwise.{stepsMade}
+use Rattle.translate.specs.Making.{Ready}
+use Rattle.statement_counts.proofs.Ranged.{all-fits}
 
 -- all steps are the translation
 pub whole-made : (s : List ℕ) → stepsMade s 0 (steps s) (atStart s) ≡ translated signature1 halves (tableOf s)
 unfolding stepsMade atStart entriesOf
 whole-made s = refl
 
-kept : (ms : List Meaning) (xs : List ℕ) (z : List ℕ) → HeldTerms ms z → HeldTerms (ms ++ map symbol xs) z
-kept ms [] z t = rw (append-nil ms) t
-kept ms (x ∷ xs) z t = rw (← append-assoc ms (symbol x ∷ []) (map symbol xs)) (kept (ms ++ (symbol x ∷ [])) xs z (symbol-kept ms x z t))
-
--- no compound term is built yet
-none-built : (s z : List ℕ) → z ≡ blank → HeldTerms (atStart s) z
-unfolding atStart
-none-built s z e = kept [] (free signature1 (tableOf s)) z (held-none term z e)
-
 pub start-ready : (s : List ℕ) → least (tableRungs s) ≡ Pass → {symbols array out : List ℕ} {registers : ℕ} → HeldSymbols (atStart s) symbols → array ≡ blank → registers ≡ length (atStart s)
     → 4 * length (translation signature1 halves (tableOf s)) ≤ length out → Ready (stepsMade s 0 (steps s)) (atStart s) symbols array registers out
 start-ready s e {array = array} h b n r =
     let w = whole-made s in
-    record { holds = record { of-symbols = h; of-terms = none-built s array b; count = n }; fits = rw w (all-fits s e .1); room = rw w r }
+    record { holds = record { of-symbols = h; of-terms = none-held s array b; count = n }; fits = rw w (all-fits s e .1); room = rw w r }

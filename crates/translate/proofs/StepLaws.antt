@@ -1,27 +1,28 @@
 -- The pieces of a step: its terms, its statements, the symbols that it binds. Assumes that 1 to 9 pass, where it says so.
-use mathlib.Core.Path.{_≡_, refl, sym, ap, _∙_}
+use mathlib.Core.Path.{_≡_, refl, sym, _∙_}
 use mathlib.Core.Logic.{_⊎_, inl, inr}
 use mathlib.Core.List.{List, [], _∷_, _++_, map, append-nil, append-assoc}
-use Prim.Native.Nat.{ℕ, zero, suc, _+_, _-_, _<_, _≤_}
+use Prim.Native.Nat.{ℕ, zero, suc, _+_, _-_, _*_, _<_, _≤_}
 use native.Mathlib.Omega.{arith}
-use lib.ListN.{length, length-append}
+use lib.ListN.{length}
 use Rattle.answers.specs.Ladder.{least}
 use Rattle.answers.specs.declared.Check.the-variants.{Pass}
 use Rattle.base.specs.Bytes.{byte}
 use Rattle.codes.specs.Rows.{cell}
-use Rattle.buffers.specs.Over.{overIf}
-use Rattle.buffers.proofs.OverLaws.{over-fits, over-length}
+use Rattle.buffers.specs.Over.{over, overIf}
+use Rattle.buffers.proofs.OverLaws.{over-fits}
 use Rattle.entries.specs.Fields.{code}
 use Rattle.table_layout.specs.Layout.{terms, steps, stepsAt, stepField}
 use Rattle.table.specs.Faults.{tableRungs}
-use Rattle.calculus.specs.Terms.{split, operands, binders}
+use Rattle.calculus.specs.Terms.{operands, binders}
 use Rattle.calculus.specs.Version1.{signature1}
 use Rattle.rendering.specs.Judge.{Meaning, symbol}
 use Rattle.rendering.specs.Translation.{buildEach}
 use Rattle.decoded.specs.Table.{actOf}
+use Rattle.registers.specs.Held.{registerIn}
 use Rattle.translate.specs.Stepwise.{built, after, operandsBuilt, stepBound}
-use Rattle.translate.specs.Registers.{registerIn, stateBytes, stepBytes}
-use Rattle.free_symbols.proofs.Tabled.{step-as, operand-there}
+use Rattle.translate.specs.Making.{stateBytes, stepBytes}
+use Rattle.decoded.proofs.Tabled.{step-as, operand-there}
 use Rattle.translate.proofs.BuiltLaws.{two-after}
 
 module _ (s : List ℕ) (k : ℕ) where
@@ -106,9 +107,6 @@ module _ (s : List ℕ) (k : ℕ) where
   binds-one (suc (suc (suc (suc (suc zero))))) c l p q r ms = bound-of 5 c ms
   binds-one (suc (suc (suc (suc (suc (suc op)))))) c l p q r ms = absurd (omega arith)
 
-  pub snoc-count : (ms : List Meaning) (m : Meaning) (registers : ℕ) → registers ≡ length ms → registers + 1 ≡ length (ms ++ (m ∷ []))
-  snoc-count ms m registers e = rw (length-append ms (m ∷ [])) (omega arith)
-
   -- ── Its statements ──
 
   pub step-bytes : (symbols array : List ℕ) (registers op p q x y : ℕ) → op ≡ code s 1 (stepsAt s) k → p ≡ registerIn s (stepField s k 0) symbols array registers
@@ -126,6 +124,6 @@ state-none (suc (suc (suc (suc zero)))) p q x y h = absurd (omega arith)
 state-none (suc (suc (suc (suc (suc zero))))) p q x y h = absurd (omega arith)
 state-none (suc (suc (suc (suc (suc (suc op)))))) p q x y h = refl
 
--- a buffer to which something that fits was written
-pub wrote-length : (w v o : List ℕ) → o ≡ overIf w v → length w ≤ length v → length o ≡ length v
-wrote-length w v o e h = ap length (e ∙ over-fits w v h) ∙ over-length w v h
+-- one statement is written to a buffer that has room for it
+pub one-wrote : {b w o : List ℕ} (v : List ℕ) → b ≡ w → length b ≤ length v → length w ≡ 4 → o ≡ overIf w v → (4 * 1 ≡ length b) × (o ≡ over b v)
+one-wrote {b} {w} v e h n p = rw e (sym n, p ∙ over-fits w v (rw e at h))

@@ -1,6 +1,6 @@
 -- A step as it is written: its terms, then its statements, then the registers of the symbols that it binds. Assumes that 1 to 9 pass.
 use mathlib.Core.Path.{_≡_, refl, ap}
-use mathlib.Core.List.{List, [], _∷_, _++_, map, append-nil, append-assoc}
+use mathlib.Core.List.{List, map}
 use Prim.Native.Nat.{ℕ, zero, suc, _+_, _-_, _*_, _<_, _≤_}
 use native.Mathlib.Omega.{arith}
 use lib.ListN.{length, take, drop, length-append, length-map}
@@ -9,9 +9,9 @@ use Rattle.answers.specs.Ladder.{least}
 use Rattle.answers.specs.declared.Check.the-variants.{Pass}
 use Rattle.buffers.specs.Over.{over}
 use Rattle.entries.specs.Fields.{code}
-use Rattle.table_layout.specs.Layout.{terms, steps, stepsAt, stepField}
+use Rattle.table_layout.specs.Layout.{steps, stepsAt, stepField}
 use Rattle.table.specs.Faults.{tableRungs}
-use Rattle.calculus.specs.Terms.{Act, send, receive, fresh, compare, split, decrypt, mapAct, binders}
+use Rattle.calculus.specs.Terms.{mapAct, binders}
 use Rattle.calculus.specs.Version1.{signature1}
 use Rattle.rendering.specs.Rendering.{halves, duesOf}
 use Rattle.rendering.specs.Judge.{Meaning, symbol}
@@ -19,12 +19,14 @@ use Rattle.rendering.specs.Translation.{stated}
 use Rattle.entries.specs.Tiling.{joined}
 use Rattle.decoded.specs.Table.{actOf, stepAt}
 use Rattle.decoded_list.specs.Bytes.{statementBytes, statementsBytes, halfOp}
-use Rattle.free_symbols.specs.Entries.{entriesOf, meaningOf}
-use Rattle.translate.specs.Stepwise.{Making, registerAt, after, operandsBuilt, stepStated, stepBound, stepMade}
-use Rattle.translate.specs.Registers.{Held, HeldSymbols, HeldTerms, Ready, Done, registerIn, stateBytes, stepBytes}
-use Rattle.free_symbols.proofs.Tabled.{step-as, step-known}
-use Rattle.translate.proofs.HeldLaws.{symbol-kept}
-use Rattle.translate.proofs.Building.{register-right}
+use Rattle.decoded.specs.Indexes.{entriesOf, meaningOf}
+use Rattle.registers.specs.Held.{registerAt, Held, HeldSymbols, HeldTerms, registerIn}
+use Rattle.registers.proofs.HeldLaws.{symbols-kept}
+use Rattle.registers.proofs.RegisterLaws.{register-right}
+use Rattle.translate.specs.Stepwise.{Making, after, operandsBuilt, stepStated, stepBound, stepMade}
+use Rattle.translate.specs.Making.{Ready, Done, stateBytes, stepBytes}
+use Rattle.decoded.proofs.Tabled.{step-as, step-known}
+use Rattle.statement_counts.proofs.Counts.{few-due}
 use Rattle.translate.proofs.StepLaws.{first-there, second-there}
 use Rattle.translate.proofs.Writing.{bytes-length, done-fits, ready-first, ready-second, ready-as, done-both}
 
@@ -37,15 +39,6 @@ bytes-of : (s : List ℕ) (k op : ℕ) → code s 1 (stepsAt s) k ≡ op → (sy
     → stepBytes s k symbols array registers ≡ stateBytes op (registerIn s (stepField s k 0) symbols array registers) (registerIn s (stepField s k 1) symbols array registers) (stepField s k 2) (stepField s k 3)
 unfolding stepBytes
 bytes-of s k op c symbols array registers = rw c
-
-pub few-due : (p : Act signature1 ℕ) → length (duesOf signature1 halves p) ≤ 2
-unfolding duesOf
-few-due (send a b) = omega arith
-few-due (receive a x) = omega arith
-few-due (fresh x) = omega arith
-few-due (compare a b) = omega arith
-few-due (split a x y) = omega arith
-few-due (decrypt e a b x) = omega arith
 
 module _ (s : List ℕ) (e : least (tableRungs s) ≡ Pass) (k : ℕ) (h : k < steps s) where
   -- what the code writes are the step's statements
@@ -63,13 +56,9 @@ module _ (s : List ℕ) (e : least (tableRungs s) ≡ Pass) (k : ℕ) (h : k < s
       by-op (suc (suc (suc (suc (suc (suc op)))))) c u = absurd (omega arith)
 
   -- the symbols that it binds are no compound terms
-  kept : (ms : List Meaning) (xs : List ℕ) (z : List ℕ) → HeldTerms ms z → HeldTerms (ms ++ map symbol xs) z
-  kept ms [] z t = rw (append-nil ms) t
-  kept ms (x ∷ xs) z t = rw (← append-assoc ms (symbol x ∷ []) (map symbol xs)) (kept (ms ++ (symbol x ∷ [])) xs z (symbol-kept ms x z t))
-
   bound-kept : (ms : List Meaning) (z : List ℕ) → HeldTerms ms z → HeldTerms (stepBound s k ms) z
   unfolding stepBound
-  bound-kept ms z t = kept ms (binders signature1 (stepAt s k)) z t
+  bound-kept ms z t = symbols-kept ms (binders signature1 (stepAt s k)) z t
 
   bound-grows : (ms : List Meaning) → length ms ≤ length (stepBound s k ms)
   unfolding stepBound

@@ -26,9 +26,10 @@ use Rattle.decoded.proofs.Ranges.{terms-there}
 use Rattle.decoded.proofs.Shapes.{step-uses}
 use Rattle.decoded.proofs.Holding.{entries-length}
 use Rattle.decoded_list.specs.Bytes.{statementsBytes}
-use Rattle.free_symbols.specs.Entries.{entriesOf}
-use Rattle.translate.specs.Stepwise.{Making, built, after, operandsBuilt, stepStated, stepBound, stepMade, stepsMade, atStart}
-use Rattle.translate.specs.Registers.{Held, Ready, Done}
+use Rattle.decoded.specs.Indexes.{entriesOf}
+use Rattle.registers.specs.Held.{atStart, Held}
+use Rattle.translate.specs.Stepwise.{Making, built, after, operandsBuilt, stepStated, stepBound, stepMade, stepsMade}
+use Rattle.translate.specs.Making.{Ready, Done}
 use Rattle.translate.proofs.BuiltLaws.{built-any, term-grows}
 use Rattle.translate.proofs.Writing.{done-length, done-fits, ready-first, ready-second, ready-as, done-both, done-nothing}
 

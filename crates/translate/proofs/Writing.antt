@@ -13,8 +13,9 @@ use Rattle.rendering.specs.Judge.{Meaning}
 use Rattle.entries.specs.Tiling.{joined}
 use Rattle.entries.proofs.Tiling.{joined-append}
 use Rattle.decoded_list.specs.Bytes.{statementBytes, statementsBytes}
+use Rattle.registers.specs.Held.{Held}
 use Rattle.translate.specs.Stepwise.{Making, after}
-use Rattle.translate.specs.Registers.{Held, Ready, Done}
+use Rattle.translate.specs.Making.{Ready, Done}
 
 -- ── The bytes of statements ──
 

@@ -1,2 +1,3 @@
+-- What the promises of `translate` speak of.
 pub mod Stepwise
-pub mod Registers
+pub mod Making

@@ -2,29 +2,24 @@
 -- these are definitions.
 use mathlib.Core.List.{List, [], _∷_, _++_, map}
 use Prim.Native.Nat.{ℕ, suc}
-use lib.ListN.{length}
 use Rattle.answers.specs.declared.Check.{Check}
 use Rattle.answers.specs.declared.Check.the-variants.{Pass, Refuse}
 use Rattle.buffers.specs.Over.{overIf}
 use Rattle.entries.specs.Fields.{code}
 use Rattle.table_layout.specs.Layout.{termsAt, termField}
 use Rattle.calculus.specs.Terms.{build2, operands, binders, Statement, build}
-use Rattle.calculus.specs.Tables.{free, process}
 use Rattle.calculus.specs.Version1.{signature1}
-use Rattle.rendering.specs.Rendering.{halves, duesOf, dues}
+use Rattle.rendering.specs.Rendering.{halves, duesOf}
 use Rattle.rendering.specs.Judge.{Meaning, symbol, term}
-use Rattle.rendering.specs.Translation.{Made, registerOf, buildEach, buildTerm, stated, translateFrom, compounds}
+use Rattle.rendering.specs.Translation.{Made, buildEach, buildTerm, stated, translateFrom}
 use Rattle.entries.specs.Tiling.{listed}
-use Rattle.decoded.specs.Table.{termAt, stepAt, tableOf}
-use Rattle.free_symbols.specs.Entries.{entriesOf, meaningOf, kindOf}
+use Rattle.decoded.specs.Table.{stepAt}
+use Rattle.decoded.specs.Indexes.{entriesOf, kindOf}
+use Rattle.registers.specs.Held.{registerAt}
 
 -- statements, and what the registers mean after them
 abbrev pub Making : Type 0
 Making = Made signature1
-
--- the register of term i
-unfoldable pub registerAt : List ℕ → List Meaning → ℕ → ℕ
-registerAt s ms i = registerOf ms (meaningOf s i)
 
 -- term i is built, unless it is
 unfoldable pub built : List ℕ → ℕ → List Meaning → Making
@@ -58,24 +53,6 @@ stepMade s k ms = let r = operandsBuilt s k ms in (r .0 ++ stepStated s k (r .1)
 -- the steps from k on, of which there are n
 unfoldable pub stepsMade : List ℕ → ℕ → ℕ → List Meaning → Making
 stepsMade s k n ms = translateFrom signature1 (entriesOf s) halves (listed (stepAt s) k n) ms
-
--- how many statements step k makes due, and whether term i is compound
-unfoldable pub dueOf : List ℕ → ℕ → ℕ
-dueOf s k = length (duesOf signature1 halves (stepAt s k))
-
-unfoldable pub compoundOf : List ℕ → ℕ → ℕ
-compoundOf s i = compounds signature1 (termAt s i ∷ [])
-
--- the number of statements due, and that of compound terms
-unfoldable pub dueCount : List ℕ → ℕ
-dueCount s = length (dues signature1 halves 0 (process signature1 (tableOf s)))
-
-unfoldable pub compoundCount : List ℕ → ℕ
-compoundCount s = compounds signature1 (tableOf s .entries)
-
--- the registers at the start: the free symbols
-unfoldable pub atStart : List ℕ → List Meaning
-atStart s = map symbol (free signature1 (tableOf s))
 
 -- the buffer z after w was to be written: nothing is written where the table is refused, or where w does not fit
 abbrev pub wroteIf : Check → List ℕ → List ℕ → List ℕ

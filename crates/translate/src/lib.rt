@@ -1,70 +1,29 @@
-// The translation of a checked role table into statements: their number, and their bytes in a lent buffer.
-// A term is built once, just before its first use. Two arrays hold one more than the register of each symbol and of each compound
-// term, 0 where there is none yet, so that a shared term is looked at once for each place that names it.
+// The translation of a checked role table into statements: their bytes in a lent buffer.
+// A term is built once, just before its first use; the two arrays of `registers` say where it is then, so that a shared term is looked at
+// once for each place that names it.
 use answers::Check;
 ghost use mathlib.Core.Path.{_≡_};
 ghost use Prim.Native.Nat.{_+_, _*_, _<_, _≤_};
 ghost use lib.ListN.{length};
 ghost use Rattle.answers.specs.Ladder.{least};
 ghost use Rattle.answers.specs.declared.Check.the-variants.{Pass};
-ghost use Rattle.marks.specs.Put.{Put, blank};
 ghost use Rattle.entries.specs.Fields.{code};
 ghost use Rattle.table_layout.specs.Layout.{terms as termsOf, steps, termsAt, stepsAt};
 ghost use Rattle.table.specs.Faults.{tableRungs};
-ghost use Rattle.calculus.specs.Tables.{isIn};
 ghost use Rattle.calculus.specs.Version1.{signature1};
 ghost use Rattle.rendering.specs.Rendering.{halves};
 ghost use Rattle.rendering.specs.Translation.{translation};
 ghost use Rattle.decoded.specs.Table.{tableOf};
 ghost use Rattle.buffers.specs.Over.{over};
 ghost use Rattle.decoded_list.specs.Bytes.{statementsBytes};
-ghost use Rattle.free_symbols.specs.Free.{boundIn};
-ghost use Rattle.translate.specs.Stepwise.{built, after, operandsBuilt, stepMade, stepsMade, dueOf, dueCount, compoundOf, compoundCount, atStart, wroteIf};
-ghost use Rattle.translate.specs.Registers.{HeldSymbols, Ready, SomeReady, Makes, BindsStep, heldAt, registerIn, settled, makeBytes, stepBytes, Noted, NotesFree};
+ghost use Rattle.registers.specs.Held.{atStart, Noted};
+ghost use Rattle.translate.specs.Stepwise.{built, after, operandsBuilt, stepMade, stepsMade, wroteIf};
+ghost use Rattle.translate.specs.Making.{Ready, SomeReady, Makes, BindsStep, makeBytes, stepBytes};
 
 // What a step adds: its statements, and the registers that are given after it.
 pub struct Added {
     pub statements: u8,
     pub registers: u8,
-}
-
-// Notes the next register at a place; an earlier one stays.
-fn note(array: &mut [u8; 256], at: u8, registers: u8)
-    requires { ⌜ registers < 255 ⌝ }
-    ensures { λ _. ⌜ Noted (now (array .entry)) (now (array .exit)) at registers ⌝ }
-{
-    let none = marks::get(array, at) == 0;
-    marks::put(array, none, at, registers + 1);
-}
-
-// The register of term i, the next one where there is none.
-fn register_of(s: &[u8], i: u8, symbols: &[u8; 256], terms: &[u8; 256], registers: u8) -> u8
-    ensures { λ r. ⌜ r ≡ registerIn (now (s .entry)) i (now (symbols .entry)) (now (terms .entry)) registers ⌝ }
-{
-    let held = held_at(s, i, symbols, terms);
-    if held == 0 {
-        return registers;
-    }
-    held - 1
-}
-
-fn held_at(s: &[u8], i: u8, symbols: &[u8; 256], terms: &[u8; 256]) -> u8
-    ensures { λ r. ⌜ r ≡ heldAt (now (s .entry)) i (now (symbols .entry)) (now (terms .entry)) ⌝ }
-{
-    if table_layout::term_code(s, i) == 0 {
-        return marks::get(symbols, table_layout::term_field(s, i, 0));
-    }
-    marks::get(terms, i)
-}
-
-// Nothing is to be built: the term is a symbol, or it is built.
-fn is_settled(s: &[u8], i: u8, terms: &[u8; 256]) -> bool
-    ensures { λ r. ⌜ r ≡ settled (now (s .entry)) i (now (terms .entry)) ⌝ }
-{
-    if table_layout::term_code(s, i) == 0 {
-        return true;
-    }
-    marks::get(terms, i) != 0
 }
 
 // The statement that makes term i of its parts.
@@ -78,24 +37,14 @@ fn make_term(
 )
     requires { ⌜ (code (now s) 0 (termsAt (now s)) i < 3) × (registers < 255) × (4 ≤ length (now out)) ⌝ }
     ensures written { λ _. ⌜ now (out .exit) ≡ over (makeBytes (now (s .entry)) i (now (symbols .entry)) (now (terms .entry)) registers) (now (out .entry)) ⌝ }
-    ensures noted { λ _. ⌜ Noted (now (terms .entry)) (now (terms .exit)) i registers ⌝ }
+    ensures noted { λ _. ⌜ Noted (now (terms .entry)) (now (terms .exit)) i (registers + 1) ⌝ }
 {
-    let p = register_of(
-        s,
-        table_layout::term_field(s, i, 0),
-        symbols,
-        terms,
-        registers,
-    );
-    let q = register_of(
-        s,
-        table_layout::term_field(s, i, 1),
-        symbols,
-        terms,
-        registers,
-    );
+    let a = table_layout::term_field(s, i, 0);
+    let p = registers::register_of(s, a, symbols, terms, registers);
+    let b = table_layout::term_field(s, i, 1);
+    let q = registers::register_of(s, b, symbols, terms, registers);
     buffers::put_four(out, table_layout::term_code(s, i) + 6, p, q, 0);
-    note(terms, i, registers);
+    registers::note(terms, i, registers + 1);
 }
 
 // Builds term i, unless it is built: its parts first. Answers how many statements that takes; each gives a register.
@@ -110,20 +59,15 @@ fn build_term(
     requires { ⌜ (least (tableRungs (now s)) ≡ Pass) × (i < termsOf (now s)) × SomeReady (built (now s) i) (now symbols) (now terms) registers (now out) ⌝ }
     ensures { λ r. ⌜ Makes (built (now (s .entry)) i) (now (symbols .entry)) (now (symbols .entry)) (now (terms .entry)) (now (terms .exit)) registers (registers + r) (now (out .entry)) (now (out .exit)) r ⌝ }
 {
-    if is_settled(s, i, terms) {
+    if registers::is_settled(s, i, terms) {
         return 0;
     }
-    let a = build_term(
-        s,
-        table_layout::term_field(s, i, 0),
-        symbols,
-        terms,
-        registers,
-        out,
-    );
+    let left = table_layout::term_field(s, i, 0);
+    let a = build_term(s, left, symbols, terms, registers, out);
+    let right = table_layout::term_field(s, i, 1);
     let b = build_term(
         s,
-        table_layout::term_field(s, i, 1),
+        right,
         symbols,
         terms,
         registers + a,
@@ -207,20 +151,10 @@ fn state_step(
     ensures written { λ _. ⌜ now (out .exit) ≡ over (stepBytes (now (s .entry)) k (now (symbols .entry)) (now (terms .entry)) registers) (now (out .entry)) ⌝ }
 {
     let op = table_layout::step_code(s, k);
-    let p = register_of(
-        s,
-        table_layout::step_field(s, k, 0),
-        symbols,
-        terms,
-        registers,
-    );
-    let q = register_of(
-        s,
-        table_layout::step_field(s, k, 1),
-        symbols,
-        terms,
-        registers,
-    );
+    let a = table_layout::step_field(s, k, 0);
+    let p = registers::register_of(s, a, symbols, terms, registers);
+    let b = table_layout::step_field(s, k, 1);
+    let q = registers::register_of(s, b, symbols, terms, registers);
     let x = table_layout::step_field(s, k, 2);
     match op {
         0 => {
@@ -264,9 +198,9 @@ fn bind_step(s: &[u8], k: u8, symbols: &mut [u8; 256], registers: u8) -> u8
     if op == 3 {
         return registers;
     }
-    note(symbols, table_layout::step_field(s, k, 2), registers);
+    registers::note(symbols, table_layout::step_field(s, k, 2), registers + 1);
     if op == 4 {
-        note(symbols, table_layout::step_field(s, k, 3), registers + 1);
+        registers::note(symbols, table_layout::step_field(s, k, 3), registers + 2);
         return registers + 2;
     }
     registers + 1
@@ -317,108 +251,15 @@ fn write_steps(s: &[u8], symbols: &mut [u8; 256], terms: &mut [u8; 256], first: 
     }
 }
 
-// Notes the next register for symbol x, if it is free. Answers how many registers are given then.
-fn note_if_free(bound: &[u8; 256], x: u8, symbols: &mut [u8; 256], registers: u8) -> u8
-    requires { ⌜ registers < 255 ⌝ }
-    ensures few { λ r. ⌜ r ≤ registers + 1 ⌝ }
-    ensures noted { λ r. ⌜ NotesFree (now (bound .entry)) x (now (symbols .entry)) (now (symbols .exit)) registers r ⌝ }
-{
-    if marks::get(bound, x) == 0 {
-        note(symbols, x, registers);
-        return registers + 1;
-    }
-    registers
-}
-
-// Notes the registers of the free symbols, by index. Answers how many there are.
-fn note_free(s: &[u8], bound: &[u8; 256], symbols: &mut [u8; 256]) -> u8
-    requires { ⌜ Put blank (now bound) (λ x. isIn x (boundIn (now s))) 1 × (now symbols ≡ blank) ⌝ }
-    ensures held { λ _. ⌜ HeldSymbols (atStart (now (s .entry))) (now (symbols .exit)) ⌝ }
-    ensures counted { λ r. ⌜ r ≡ length (atStart (now (s .entry))) ⌝ }
-{
-    let n = table_layout::symbol_count(s);
-    let mut registers = 0;
-    let mut x = 0;
-    while x < n {
-        registers = note_if_free(bound, x, symbols, registers);
-        x += 1;
-    }
-    registers
-}
-
 // Writes the statements of a table without faults 1 to 9 into a buffer that has room for them.
 fn put_statements(s: &[u8], out: &mut [u8])
     requires { ⌜ (least (tableRungs (now s)) ≡ Pass) × (4 * length (translation signature1 halves (tableOf (now s))) ≤ length (now out)) ⌝ }
     ensures { λ _. ⌜ now (out .exit) ≡ over (statementsBytes (translation signature1 halves (tableOf (now (s .entry))))) (now (out .entry)) ⌝ }
 {
-    let mut bound = [0u8; 256];
-    free_symbols::mark_bound(s, &mut bound);
     let mut symbols = [0u8; 256];
-    let first = note_free(s, &bound, &mut symbols);
+    let first = registers::note_free(s, &mut symbols);
     let mut terms = [0u8; 256];
     write_steps(s, &mut symbols, &mut terms, first, out);
-}
-
-// How many statements step k makes due.
-fn due_of(s: &[u8], k: u8) -> usize
-    ensures { λ r. ⌜ r ≡ dueOf (now (s .entry)) k ⌝ }
-{
-    if table_layout::step_code(s, k) == 4 {
-        return 2;
-    }
-    1
-}
-
-// The number of statements due.
-fn due_count(s: &[u8]) -> usize
-    ensures counted { λ r. ⌜ r ≡ dueCount (now (s .entry)) ⌝ }
-    ensures small { λ r. ⌜ r < 512 ⌝ }
-{
-    let n = table_layout::step_count(s);
-    let mut sum = 0;
-    let mut k = 0;
-    while k < n {
-        sum += due_of(s, k);
-        k += 1;
-    }
-    sum
-}
-
-// 1 for a compound term, else 0.
-fn compound_of(s: &[u8], i: u8) -> usize
-    ensures { λ r. ⌜ r ≡ compoundOf (now (s .entry)) i ⌝ }
-{
-    let op = table_layout::term_code(s, i);
-    if op == 1 {
-        return 1;
-    }
-    if op == 2 {
-        return 1;
-    }
-    0
-}
-
-// The number of compound terms.
-fn compound_count(s: &[u8]) -> usize
-    ensures counted { λ r. ⌜ r ≡ compoundCount (now (s .entry)) ⌝ }
-    ensures small { λ r. ⌜ r < 256 ⌝ }
-{
-    let n = table_layout::term_count(s);
-    let mut sum = 0;
-    let mut i = 0;
-    while i < n {
-        sum += compound_of(s, i);
-        i += 1;
-    }
-    sum
-}
-
-// N, known before anything is written.
-pub fn statement_count(s: &[u8]) -> usize
-    ensures due { λ r. ⌜ r ≡ dueCount (now (s .entry)) + compoundCount (now (s .entry)) ⌝ }
-    ensures known { λ r. ⌜ (least (tableRungs (now (s .entry))) ≡ Pass → r ≡ length (translation signature1 halves (tableOf (now (s .entry))))) ⌝ }
-{
-    due_count(s) + compound_count(s)
 }
 
 // Writes the statements of a table without faults 1 to 9 into a buffer that has room for them, else nothing.
@@ -429,7 +270,7 @@ pub fn write_statements(s: &[u8], out: &mut [u8])
     let Check::Pass = a else {
         return;
     };
-    if 4 * statement_count(s) <= out.len() {
+    if 4 * statement_counts::statement_count(s) <= out.len() {
         put_statements(s, out);
     }
 }

@@ -1,3 +1,4 @@
+-- Laws of `type_bytes`, for the proofs of the crates above.
 pub mod EndLaws
 pub mod HowLaws
 pub mod MeetLaws

@@ -1,2 +1,3 @@
+-- What the promises of `type_bytes` speak of.
 pub mod Ends
 pub mod Meets

@@ -3,14 +3,14 @@ use mathlib.Core.Path.{_≡_, refl, sym, ap, _∙_}
 use mathlib.Core.List.{List, [], _∷_, _++_, append-nil}
 use Prim.Native.Nat.{ℕ, suc, _+_, _-_, _≤_, _<_}
 use native.Mathlib.Omega.{arith}
-use lib.ListN.{length, take, drop, set, length-append, length-drop, length-set}
+use lib.ListN.{length, take, drop, length-append, length-drop}
 use borrow.Rule.Slice.PartMut.{putMid}
 use Rattle.entries.specs.Tiling.{listed, joined}
 use Rattle.entries.proofs.Tiling.{listed-add, joined-append}
 use Rattle.types.specs.Version1.{T, bytes}
 use Rattle.buffers.specs.Over.{over, overIf}
 use Rattle.buffers.proofs.Parts.{part-from}
-use Rattle.buffers.proofs.OverLaws.{over-none, over-first, over-fits, over-lent, lent-length}
+use Rattle.buffers.proofs.OverLaws.{over-none, over-fits, over-lent, lent-length, lentRest, withRest, rest-length, rest-over}
 use Rattle.calculus.specs.Figure2.{Env}
 use Rattle.calculus.specs.Version1.{signature1}
 use Rattle.slots.specs.Slots.{Holds}
@@ -59,21 +59,14 @@ module _ (w z : List ℕ) (x : ℕ) (t : List ℕ) (i : TypeIs w x t) where
   }
 
   module _ (l : length t + 1 ≤ length z) (b : ℕ) (hb : b ≡ length t) (ys : List ℕ) where
-    abbrev xs : List ℕ
-    xs = set z 0 b
-
-    part-length : length (take (length xs - 1) (drop 1 xs)) ≡ length z - 1
-    part-length = rw part-from (simp (length-drop, length-set))
-
-    pub put-whole : ys ≡ overIf t (take (length xs - 1) (drop 1 xs)) → TypePut w x z (putMid 1 (length xs - 1) xs ys) (length t + 1)
+    pub put-whole : ys ≡ overIf t (lentRest z b) → TypePut w x z (withRest z b ys) (length t + 1)
     unfolding typeBytes
     put-whole q = record {
       fits = l;
       wrote = λ Γ h k m.
           let e : t ≡ bytes (Γ x) = i .is Γ h k in
-          let f : ys ≡ over t (take (length xs - 1) (drop 1 xs)) = q ∙ over-fits t (take (length xs - 1) (drop 1 xs)) (omega (arith, part-length)) in
-          let g : putMid 1 (length xs - 1) xs ys ≡ over ((b ∷ []) ++ t) z = over-lent (b ∷ []) t z xs ys 1 refl (over-first z b (omega arith)) f in
-          (omega (arith, entry-length (Γ x), ap (λ (l : List ℕ). length l) e), g ∙ rw (hb, e) refl);
+          let f : ys ≡ over t (lentRest z b) = q ∙ over-fits t (lentRest z b) (omega (arith, rest-length z b)) in
+          (omega (arith, entry-length (Γ x), ap (λ (l : List ℕ). length l) e), rest-over z b ys (omega arith) t f ∙ rw (hb, e) refl);
     }
 
 -- ── All written ──

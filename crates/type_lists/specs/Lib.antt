@@ -1,1 +1,2 @@
+-- What the promises of `type_lists` speak of.
 pub mod Lists

@@ -1,1 +1,2 @@
+-- What the promises of `type_match` speak of.
 pub mod Alike

@@ -17,9 +17,12 @@ use Rattle.calculus.specs.Typing.{widest, untyped}
 use Rattle.calculus.specs.Version1.{signature1}
 use Rattle.calculus.proofs.Version1Laws.{one-answer1}
 use Rattle.decoded.specs.Table.{tableOf}
+use Rattle.decoded_list.specs.Bytes.{typesBytes}
+use Rattle.slots.specs.Slots.{Holds}
+use Rattle.type_lists.specs.Lists.{typesTo, SizeIs, TypesPut}
 use Rattle.typing.specs.Answers.{TableInferred}
 use Rattle.typing.specs.declared.Typing.the-variants.{Widest, NoTyping}
-use Rattle.type_service.specs.Services.{refusal, IsWidest, TableRefused, faulty, no-typing, SlotsTyped, SlotsPut, Room, enough, short, Answered, table-refused, too-short, written}
+use Rattle.type_service.specs.Services.{refusal, IsWidest, TableRefused, faulty, no-typing, SlotsTyped, SlotsPut, Room, enough, short, Answered, table-refused, too-short, written, typesFile}
 
 -- ── Numbers 1 to 10 ──
 
@@ -33,14 +36,40 @@ module _ (s w o : List ℕ) (a : Check) (e : a ≡ least (tableRungs s)) (q : a 
   pub slots-widest : TableInferred s w o Widest → SlotsPut s w o Pass
   slots-widest i = record { typed = λ l. let (Γ, h, t) = i .answer l (sym e ∙ q) in (Γ, h, record { sound = sym e ∙ q; typing = t }) }
 
+-- ── The slots of a table that passes ──
+
 -- a table that passes has at most 96 symbols
-pub few-symbols : (s : List ℕ) (Γ : Env signature1) → IsWidest s Γ → symbols s ≤ 96
+few-symbols : (s : List ℕ) (Γ : Env signature1) → IsWidest s Γ → symbols s ≤ 96
 few-symbols s Γ t = table-passes s .0 (t .sound) .frame .few-symbols
+
+-- the slots o hold the widest types Γ of all n symbols
+pub record Typed (s o : List ℕ) (n : ℕ) : Type 0 where
+  pub Γ : Env signature1
+  pub holds : Holds o Γ
+  pub widest : IsWidest s Γ
+  pub all : n ≡ symbols s
+  pub few : n ≤ 96
+
+pub typed : (s o : List ℕ) (n : ℕ) → SlotsTyped s o Pass → n ≡ symbols s → Typed s o n
+typed s o n (Γ, h, t) e = record { Γ = Γ; holds = h; widest = t; all = e; few = rw e (few-symbols s Γ t) }
+
+module _ (s o : List ℕ) (n : ℕ) (k : Typed s o n) where
+  -- their bytes are counted
+  pub types-counted : (r : ℕ) → SizeIs o n r → r ≡ length (typesFile s (k .Γ))
+  types-counted r i = i .is (k .Γ) (k .few) (k .holds) ∙ ap (λ (m : ℕ). length (typesBytes (typesTo (k .Γ) m))) (k .all)
+
+  -- and written, where they fit
+  pub types-written : (z y : List ℕ) → TypesPut o n z y → length (typesFile s (k .Γ)) ≤ length z → y ≡ over (typesFile s (k .Γ)) z
+  types-written z y p f = (rw (k .all) at (p .wrote (k .Γ) (k .few) (k .holds))) f
 
 -- ── Number 15 ──
 
 pub room-short : (need room : ℕ) (r : Check) → room < need → r ≡ Refuse (refusal 15 3 need) → Room need room r
 room-short need room r l q = rw q (short l)
+
+pub room-left : (need room : ℕ) (r : Check) → Room need room r → r ≡ Pass → need ≤ room
+room-left need room r (enough l) q = l
+room-left need room r (short l) q = let y : _≡_ {A = ℕ} 0 1 = cc in absurd (omega arith)
 
 -- ── One widest typing, one refusal ──
 
@@ -76,8 +105,7 @@ module _ (file : Env signature1 → List ℕ) (s z : List ℕ) where
 
     -- there is room
     pub room-for : (b : Check) → Room need (length z) b → b ≡ Pass → length (file Γ) ≤ length z
-    room-for b (enough l) q = omega (arith, n)
-    room-for b (short l) q = let y : _≡_ {A = ℕ} 0 1 = cc in absurd (omega arith)
+    room-for b r q = rw n at (room-left need (length z) b r q)
 
     -- the file is written
     pub all-written : (b : Check) (o : List ℕ) → Room need (length z) b → b ≡ Pass → o ≡ over (file Γ) z → Answered file s z o Pass need

@@ -1,1 +1,2 @@
+-- What the promises of `type_service` speak of.
 pub mod Services

@@ -1,3 +1,4 @@
+-- Laws of `types`, for the proofs of the crates above.
 pub mod ForestLaws
 pub mod TypeLaws
 pub mod PrefixLaws

@@ -27,7 +27,7 @@ use Rattle.slots.specs.Slots.{widestOf, StartedAll, meetIn}
 use Rattle.slots.proofs.TermLaws.{entries-are, in-range}
 use Rattle.slots.proofs.SlotLaws.{caps}
 use Rattle.typing.specs.Stages.{from, Found, Inferred}
-use Rattle.typing.specs.Answers.{Answered, TableInferred}
+use Rattle.typing.specs.Answers.{TypingIs, TableInferred}
 use Rattle.typing.specs.declared.Typing.{Typing}
 use Rattle.typing.specs.declared.Typing.the-variants.{Widest, NoTyping}
 
@@ -51,7 +51,7 @@ module _ (s : List ℕ) (p : least (tableRungs s) ≡ Pass) where
   right : AnswerIs signature1 (tableOf s) (from s (widestOf s) 0)
   right = rw from-is (right1 (tableOf s) (table-checked s p))
 
-  answered : (o : List ℕ) (r : Typing) → Found s (widestOf s) o r → Answered s o r
+  answered : (o : List ℕ) (r : Typing) → Found s (widestOf s) o r → TypingIs s o r
   answered o Widest (Θ, e, h) = (Θ, h, rw e at right)
   answered o (NoTyping k) e = rw e at right
 

@@ -1,3 +1,4 @@
+-- Laws of `typing`, for the proofs of the crates above.
 pub mod MarkLaws
 pub mod KeyLaws
 pub mod WantLaws

@@ -5,7 +5,7 @@ use mathlib.Core.List.{List, [], _∷_, _++_}
 use mathlib.Core.Option.{bind, Option·some-inj}
 use Prim.Native.Nat.{ℕ, zero, suc, _+_, _-_, _*_, _≤_, _<_}
 use native.Mathlib.Omega.{arith}
-use lib.ListN.{length, take, drop, set, length-append, length-take, length-drop, length-set}
+use lib.ListN.{length, take, drop, length-append, length-take}
 use borrow.Rule.Slice.PartMut.{putMid}
 use Rattle.table_layout.specs.Layout.{stepField}
 use Rattle.types.specs.Types.{Basic, Cipher, Pair}
@@ -14,8 +14,8 @@ use Rattle.types.specs.Version1.{T, bytes, channel, shkey, shared, code1}
 use Rattle.buffers.specs.Over.{over}
 use Rattle.type_bytes.specs.Meets.{Copied}
 use Rattle.type_bytes.specs.declared.Lower.the-variants.{Met, Apart}
-use Rattle.buffers.proofs.Parts.{part-from}
-use Rattle.buffers.proofs.OverLaws.{over-first, over-lent}
+use Rattle.buffers.proofs.Parts.{part-length}
+use Rattle.buffers.proofs.OverLaws.{over-lent, lentRest, withRest, rest-length, rest-over}
 use Rattle.calculus.specs.Figure2.{Env}
 use Rattle.calculus.specs.Inference.{wants, push, pushAll}
 use Rattle.calculus.specs.Version1.{signature1}
@@ -58,24 +58,15 @@ module _ (w z : List ℕ) (s at e : ℕ) (ha : at ≡ s * 129) (he : e ≡ at + 
 
 -- a first byte h, and the rest of the buffer lent for a slot's type
 module _ (w z : List ℕ) (h : ℕ) (hz : 259 ≤ length z) (x : ℕ) (y₁ : List ℕ) (n : ℕ) where
-  abbrev xs : List ℕ
-  xs = set z 0 h
-
-  abbrev z₁ : List ℕ
-  z₁ = take (length xs - 1) (drop 1 xs)
-
   abbrev x₁ : List ℕ
-  x₁ = putMid 1 (length xs - 1) xs y₁
+  x₁ = withRest z h y₁
 
-  z₁-length : length z₁ ≡ length z - 1
-  z₁-length = rw part-from (simp (length-drop, length-set))
-
-  module _ (p : SlotPut w x z₁ y₁ n) where
+  module _ (p : SlotPut w x (lentRest z h) y₁ n) where
     pub slot-room : n + 1 ≤ length z
-    slot-room = omega (arith, p .fits, z₁-length)
+    slot-room = omega (arith, p .fits, rest-length z h)
 
     first-part : (Γ : Env signature1) → x < 96 → Holds w Γ → x₁ ≡ over (h ∷ bytes (Γ x)) z
-    first-part Γ l k = over-lent (h ∷ []) (bytes (Γ x)) z xs y₁ 1 refl (over-first z h (omega arith)) (p .wrote Γ l k (omega (arith, z₁-length)) .1)
+    first-part Γ l k = rest-over z h y₁ (omega arith) (bytes (Γ x)) (p .wrote Γ l k (omega (arith, rest-length z h)) .1)
 
     pub cipher-put : h ≡ 5 → CipherPut w x x₁
     unfolding over encoded code1
@@ -85,8 +76,8 @@ module _ (w z : List ℕ) (h : ℕ) (hz : 259 ≤ length z) (x : ℕ) (y₁ : Li
     unfolding over encoded code1
     pair-put e hx y m n₂ y₂ hm p₂ = record {
       wrote = λ Γ l l′ k.
-          let (a, b, c) = p .wrote Γ l k (omega (arith, z₁-length)) in
-          let r : length (take (length x₁ - m) (drop m x₁)) ≡ length z - m = rw part-from (rw (length-drop, hx)) in
+          let (a, b, c) = p .wrote Γ l k (omega (arith, rest-length z h)) in
+          let r : length (take (length x₁ - m) (drop m x₁)) ≡ length z - m = rw (part-length m x₁, hx) in
           let q = over-lent (h ∷ bytes (Γ x)) (bytes (Γ y)) z x₁ y₂ m (omega arith) (first-part Γ l k) (p₂ .wrote Γ l′ k (omega arith) .1) in
           (drop (length ((h ∷ bytes (Γ x)) ++ bytes (Γ y))) z, q ∙ ap (λ (b : ℕ). ((b ∷ bytes (Γ x)) ++ bytes (Γ y)) ++ drop (length ((h ∷ bytes (Γ x)) ++ bytes (Γ y))) z) e);
     }

@@ -15,10 +15,10 @@ use Rattle.typing.specs.declared.Typing.{Typing}
 use Rattle.typing.specs.declared.Typing.the-variants.{Widest, NoTyping}
 
 -- the slots hold the widest typing; or the rest of the steps from k on has none, and k is the highest such step (number 10)
-abbrev pub Answered : List ℕ → List ℕ → Typing → Type 0
-Answered s o Widest = (Γ : Env signature1) × Holds o Γ × AnswerIs signature1 (tableOf s) (widest Γ)
-Answered s o (NoTyping k) = AnswerIs signature1 (tableOf s) (untyped k)
+abbrev pub TypingIs : List ℕ → List ℕ → Typing → Type 0
+TypingIs s o Widest = (Γ : Env signature1) × Holds o Γ × AnswerIs signature1 (tableOf s) (widest Γ)
+TypingIs s o (NoTyping k) = AnswerIs signature1 (tableOf s) (untyped k)
 
 -- so it is for a table without faults 1 to 9, if the lent array w is 96 slots of 129 bytes, whatever they held
 pub record TableInferred (s w o : List ℕ) (r : Typing) : Type 0 where
-  pub answer : length w ≡ 12384 → least (tableRungs s) ≡ Pass → Answered s o r
+  pub answer : length w ≡ 12384 → least (tableRungs s) ≡ Pass → TypingIs s o r

@@ -1,3 +1,4 @@
+-- What the promises of `typing` speak of.
 pub mod Marking
 pub mod Stages
 pub mod Answers

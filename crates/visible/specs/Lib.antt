@@ -1,1 +1,2 @@
+-- What the promises of `visible` speak of.
 pub mod Seen

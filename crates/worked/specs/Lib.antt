@@ -1,2 +1,3 @@
+-- What the promises of `worked` speak of.
 pub mod Examples
 pub mod Marked

@@ -1,15 +1,99 @@
 -- `compile_service::compile` meets its contract. Assumes nothing.
 use denote.Ref.{now}
+use mathlib.Core.Path.{_≡_, refl}
 use mathlib.Core.List.{List}
-use Prim.Native.Nat.{ℕ, _≤_}
-use mathlib.Core.Path.{refl}
+use Prim.Native.Nat.{ℕ, _+_, _-_, _*_, _≤_}
 use native.Mathlib.Omega.{arith}
-use Rattle.type_service.proofs.ServiceLaws.{passed-on, no-room, room-for, all-written, few-symbols}
+use lib.ListN.{length, take, drop}
+use borrow.Rule.Slice.PartMut.{putMid}
+use Rattle.buffers.specs.Over.{over}
+use Rattle.rendering.specs.Rendering.{halves}
+use Rattle.rendering.specs.Translation.{translation}
+use Rattle.calculus.specs.Version1.{signature1}
+use Rattle.table_layout.specs.Layout.{symbols}
+use Rattle.decoded.specs.Table.{tableOf}
+use Rattle.decoded_list.specs.Bytes.{headerBytes}
+use Rattle.type_service.specs.Services.{typesFile}
+use Rattle.type_service.proofs.ServiceLaws.{Typed, typed, types-counted, types-written, passed-on, no-room, room-for, all-written}
 use Rattle.compile_service.specs.Files.{listFile}
 use Rattle.compile_service.proofs.FileLaws.{few-statements, need-is, room-header, length-header, types-fit, length-types, written-file}
 use borrow.Author.Needs.{needs}
 use Rattle.compile_service.proofs.compile.Statement.{statement}
 use Rattle.compile_service.proofs.compile.Tie as tie
+
+-- ── What is known on the way ──
+
+-- the parts are counted: the slots hold the widest types of the table s, and the list's bytes are known
+module _ (c : tie.After-types-size) where
+  abbrev s : List ℕ
+  s = now (c .before .before .before .before .before .before .before .before .before .before .before .args .table)
+
+  abbrev z : List ℕ
+  z = now (c .before .before .before .before .before .before .before .before .before .before .before .args .out)
+
+  abbrev n : ℕ
+  n = c .before .before .statement-count .result
+
+  slots : Typed s (c .before .before .before .before .before .before .before .type-slots .last .1 .0) (c .before .before .before .symbol-count .result)
+  slots = typed _ _ _ (rw (c .before .before .before .before .enum-told .given .1) at (c .before .before .before .before .before .before .before .type-slots .ensures .typed (search needs))) (c .before .before .before .symbol-count .ensures)
+
+  sized : c .types-size .result ≡ length (typesFile s (slots .Γ))
+  sized = types-counted _ _ _ slots _ (c .types-size .ensures)
+
+  counted : n ≡ length (translation signature1 halves (tableOf s))
+  counted = c .before .before .statement-count .ensures .1 (slots .widest .sound)
+
+  few : n ≤ 256
+  few = omega (arith, counted, few-statements _ _ (slots .widest))
+
+  needed : 8 + c .types-size .result + 4 * n ≡ length (listFile s (slots .Γ))
+  needed = need-is _ _ (slots .widest) _ _ _ _ z sized counted refl refl
+
+-- number 15 is passed: the list has room
+module _ (c : tie.After-enum-told3) where
+  abbrev tested : tie.After-types-size
+  tested = c .before .before .before .before
+
+  room : length (listFile (s tested) (slots tested .Γ)) ≤ length (z tested)
+  room = room-for (listFile (s tested)) (s tested) (z tested) (slots tested .Γ) (slots tested .widest) _ (needed tested) _ (c .before .before .check-room .ensures) (c .enum-told3 .given .1)
+
+  eight : 8 ≤ length (z tested)
+  eight = room-header _ _ (slots tested .widest) _ _ _ _ (z tested) (sized tested) (counted tested) refl refl room
+
+-- the header is written
+module _ (c : tie.After-slice-known2) where
+  abbrev begun : tie.After-types-size
+  begun = c .before .before .before .before .before .before .before .before
+
+  abbrev o₁ : List ℕ
+  o₁ = c .before .before .put-header .last .0
+
+  header : o₁ ≡ over (headerBytes (symbols (s begun)) (n begun)) (z begun)
+  header = rw (slots begun .all) at (c .before .before .put-header .ensures)
+
+  header-kept : length o₁ ≡ length (z begun)
+  header-kept = length-header _ _ (slots begun .widest) _ _ _ _ (z begun) (sized begun) (counted begun) refl refl (room (c .before .before .before .before)) _ header
+
+-- the types are written
+module _ (c : tie.After-slice-known3) where
+  abbrev headed : tie.After-slice-known2
+  headed = c .before .before .before .before .before
+
+  abbrev counting : tie.After-types-size
+  counting = begun headed
+
+  abbrev y₁ : List ℕ
+  y₁ = c .before .before .put-types .last .0
+
+  types : y₁ ≡ over (typesFile (s counting) (slots counting .Γ)) (take (length (o₁ headed) - 8) (drop 8 (o₁ headed)))
+  types =
+      types-written _ _ _ (slots counting) _ _ (c .before .before .put-types .ensures)
+      (types-fit _ _ (slots counting .widest) _ _ _ _ (z counting) (sized counting) (counted counting) refl refl (room (headed .before .before .before .before)) _ (header headed))
+
+  types-kept : length (putMid 8 (length (o₁ headed) - 8) (o₁ headed) y₁) ≡ length (z counting)
+  types-kept = length-types _ _ (slots counting .widest) _ _ _ _ (z counting) (sized counting) (counted counting) refl refl (room (headed .before .before .before .before)) _ (header headed) _ (c .before .before .put-types .kept .0) types
+
+-- ── The needs ──
 
 slice-aggregate-type-slots : tie.Need-slice-aggregate-type-slots
 slice-aggregate-type-slots c = search needs
@@ -42,26 +126,10 @@ add-at : tie.Need-add-at
 add-at c = search needs
 
 mul-need : tie.Need-mul-need
-mul-need c =
-    let s : List ℕ = now (c .before .before .before .before .before .before .before .before .before .before .before .args .table) in
-    let z : List ℕ = now (c .before .before .before .before .before .before .before .before .before .before .before .args .out) in
-    let (Γ, h, t) = rw (c .before .before .before .before .enum-told .given .1) at (c .before .before .before .before .before .before .before .type-slots .ensures .typed (search needs)) in
-    let q = c .before .before .before .symbol-count .ensures in
-    let few : c .before .before .before .symbol-count .result ≤ 96 = rw q (few-symbols s Γ t) in
-    let hs = rw q at (c .types-size .ensures .is Γ few h) in
-    let hn = c .before .before .statement-count .ensures .1 (t .sound) in
-    omega (arith, hn, few-statements s Γ t)
+mul-need c = omega (arith, few c)
 
 add-need : tie.Need-add-need
-add-need c =
-    let s : List ℕ = now (c .before .before .before .before .before .before .before .before .before .before .before .args .table) in
-    let z : List ℕ = now (c .before .before .before .before .before .before .before .before .before .before .before .args .out) in
-    let (Γ, h, t) = rw (c .before .before .before .before .enum-told .given .1) at (c .before .before .before .before .before .before .before .type-slots .ensures .typed (search needs)) in
-    let q = c .before .before .before .symbol-count .ensures in
-    let few : c .before .before .before .symbol-count .result ≤ 96 = rw q (few-symbols s Γ t) in
-    let hs = rw q at (c .types-size .ensures .is Γ few h) in
-    let hn = c .before .before .statement-count .ensures .1 (t .sound) in
-    omega (arith, hn, few-statements s Γ t, c .types-size .ensures .small, few)
+add-need c = omega (arith, few c, slots c .few, c .types-size .ensures .small)
 
 check-room-requires : tie.Need-check-room-requires
 check-room-requires c κs = search needs
@@ -77,61 +145,17 @@ same-length c = search needs
 
 returns-2 : tie.Need-returns-2
 returns-2 c =
-    let s : List ℕ = now (c .before .before .before .before .before .before .before .before .before .before .before .before .before .before .before .args .table) in
-    let z : List ℕ = now (c .before .before .before .before .before .before .before .before .before .before .before .before .before .before .before .args .out) in
-    let (Γ, h, t) = rw (c .before .before .before .before .before .before .before .before .enum-told .given .1) at (c .before .before .before .before .before .before .before .before .before .before .before .type-slots .ensures .typed (search needs)) in
-    let q = c .before .before .before .before .before .before .before .symbol-count .ensures in
-    let few : c .before .before .before .before .before .before .before .symbol-count .result ≤ 96 = rw q (few-symbols s Γ t) in
-    let hs = rw q at (c .before .before .before .before .types-size .ensures .is Γ few h) in
-    let hn = c .before .before .before .before .before .before .statement-count .ensures .1 (t .sound) in
-    no-room (listFile s) s z Γ t _ (need-is s Γ t _ _ _ _ z hs hn refl refl) _ _ (c .before .before .check-room .ensures) (c .enum-told4 .given .1)
+    let d : tie.After-types-size = c .before .before .before .before in
+    no-room (listFile (s d)) (s d) (z d) (slots d .Γ) (slots d .widest) _ (needed d) _ _ (c .before .before .check-room .ensures) (c .enum-told4 .given .1)
 
 put-header-requires : tie.Need-put-header-requires
-put-header-requires c κs =
-    let s : List ℕ = now (c .before .before .before .before .before .before .before .before .before .before .before .before .before .before .before .before .args .table) in
-    let z : List ℕ = now (c .before .before .before .before .before .before .before .before .before .before .before .before .before .before .before .before .args .out) in
-    let (Γ, h, t) = rw (c .before .before .before .before .before .before .before .before .before .enum-told .given .1) at (c .before .before .before .before .before .before .before .before .before .before .before .before .type-slots .ensures .typed (search needs)) in
-    let q = c .before .before .before .before .before .before .before .before .symbol-count .ensures in
-    let few : c .before .before .before .before .before .before .before .before .symbol-count .result ≤ 96 = rw q (few-symbols s Γ t) in
-    let hs = rw q at (c .before .before .before .before .before .types-size .ensures .is Γ few h) in
-    let hn = c .before .before .before .before .before .before .before .statement-count .ensures .1 (t .sound) in
-    let m = need-is s Γ t _ _ _ _ z hs hn refl refl in
-    let r = c .before .before .before .check-room .ensures in
-    let e = c .before .enum-told3 .given .1 in
-    let f = room-for (listFile s) s z Γ t _ m _ r e in
-    (omega (arith, hn, few-statements s Γ t), room-header s Γ t _ _ _ _ z hs hn refl refl f)
+put-header-requires c κs = (omega (arith, few (tested (c .before))), eight (c .before))
 
 sub-put-types : tie.Need-sub-put-types
-sub-put-types c =
-    let s : List ℕ = now (c .before .before .before .before .before .before .before .before .before .before .before .before .before .before .before .before .before .before .before .args .table) in
-    let z : List ℕ = now (c .before .before .before .before .before .before .before .before .before .before .before .before .before .before .before .before .before .before .before .args .out) in
-    let (Γ, h, t) = rw (c .before .before .before .before .before .before .before .before .before .before .before .before .enum-told .given .1) at (c .before .before .before .before .before .before .before .before .before .before .before .before .before .before .before .type-slots .ensures .typed (search needs)) in
-    let q = c .before .before .before .before .before .before .before .before .before .before .before .symbol-count .ensures in
-    let few : c .before .before .before .before .before .before .before .before .before .before .before .symbol-count .result ≤ 96 = rw q (few-symbols s Γ t) in
-    let hs = rw q at (c .before .before .before .before .before .before .before .before .types-size .ensures .is Γ few h) in
-    let hn = c .before .before .before .before .before .before .before .before .before .before .statement-count .ensures .1 (t .sound) in
-    let m = need-is s Γ t _ _ _ _ z hs hn refl refl in
-    let r = c .before .before .before .before .before .before .check-room .ensures in
-    let e = c .before .before .before .before .enum-told3 .given .1 in
-    let f = room-for (listFile s) s z Γ t _ m _ r e in
-    let h₁ = rw q at (c .before .before .put-header .ensures) in
-    omega (arith, room-header s Γ t _ _ _ _ z hs hn refl refl f, length-header s Γ t _ _ _ _ z hs hn refl refl f _ h₁)
+sub-put-types c = omega (arith, eight (c .before .before .before .before), header-kept c)
 
 part-put-types-start : tie.Need-part-put-types-start
-part-put-types-start c =
-    let s : List ℕ = now (c .before .before .before .before .before .before .before .before .before .before .before .before .before .before .before .before .before .before .before .args .table) in
-    let z : List ℕ = now (c .before .before .before .before .before .before .before .before .before .before .before .before .before .before .before .before .before .before .before .args .out) in
-    let (Γ, h, t) = rw (c .before .before .before .before .before .before .before .before .before .before .before .before .enum-told .given .1) at (c .before .before .before .before .before .before .before .before .before .before .before .before .before .before .before .type-slots .ensures .typed (search needs)) in
-    let q = c .before .before .before .before .before .before .before .before .before .before .before .symbol-count .ensures in
-    let few : c .before .before .before .before .before .before .before .before .before .before .before .symbol-count .result ≤ 96 = rw q (few-symbols s Γ t) in
-    let hs = rw q at (c .before .before .before .before .before .before .before .before .types-size .ensures .is Γ few h) in
-    let hn = c .before .before .before .before .before .before .before .before .before .before .statement-count .ensures .1 (t .sound) in
-    let m = need-is s Γ t _ _ _ _ z hs hn refl refl in
-    let r = c .before .before .before .before .before .before .check-room .ensures in
-    let e = c .before .before .before .before .enum-told3 .given .1 in
-    let f = room-for (listFile s) s z Γ t _ m _ r e in
-    let h₁ = rw q at (c .before .before .put-header .ensures) in
-    omega (arith, room-header s Γ t _ _ _ _ z hs hn refl refl f, length-header s Γ t _ _ _ _ z hs hn refl refl f _ h₁)
+part-put-types-start c = omega (arith, eight (c .before .before .before .before), header-kept c)
 
 part-put-types-end : tie.Need-part-put-types-end
 part-put-types-end c = search needs
@@ -143,40 +167,10 @@ put-types-requires : tie.Need-put-types-requires
 put-types-requires c κs = search needs
 
 sub-write-statements : tie.Need-sub-write-statements
-sub-write-statements c =
-    let s : List ℕ = now (c .before .before .before .before .before .before .before .before .before .before .before .before .before .before .before .before .before .before .before .before .before .before .before .before .args .table) in
-    let z : List ℕ = now (c .before .before .before .before .before .before .before .before .before .before .before .before .before .before .before .before .before .before .before .before .before .before .before .before .args .out) in
-    let (Γ, h, t) = rw (c .before .before .before .before .before .before .before .before .before .before .before .before .before .before .before .before .before .enum-told .given .1) at (c .before .before .before .before .before .before .before .before .before .before .before .before .before .before .before .before .before .before .before .before .type-slots .ensures .typed (search needs)) in
-    let q = c .before .before .before .before .before .before .before .before .before .before .before .before .before .before .before .before .symbol-count .ensures in
-    let few : c .before .before .before .before .before .before .before .before .before .before .before .before .before .before .before .before .symbol-count .result ≤ 96 = rw q (few-symbols s Γ t) in
-    let hs = rw q at (c .before .before .before .before .before .before .before .before .before .before .before .before .before .types-size .ensures .is Γ few h) in
-    let hn = c .before .before .before .before .before .before .before .before .before .before .before .before .before .before .before .statement-count .ensures .1 (t .sound) in
-    let m = need-is s Γ t _ _ _ _ z hs hn refl refl in
-    let r = c .before .before .before .before .before .before .before .before .before .before .before .check-room .ensures in
-    let e = c .before .before .before .before .before .before .before .before .before .enum-told3 .given .1 in
-    let f = room-for (listFile s) s z Γ t _ m _ r e in
-    let h₁ = rw q at (c .before .before .before .before .before .before .before .put-header .ensures) in
-    let w₁ = rw q at (c .before .before .put-types .ensures .wrote Γ few h (rw q (types-fit s Γ t _ _ _ _ z hs hn refl refl f _ h₁))) in
-    let k₁ = c .before .before .put-types .kept .0 in
-    omega (arith, need-is s Γ t _ _ _ _ z hs hn refl refl, f, length-types s Γ t _ _ _ _ z hs hn refl refl f _ h₁ _ k₁ w₁)
+sub-write-statements c = omega (arith, needed (counting c), room (c .before .before .before .before .before .before .before .before .before), types-kept c)
 
 part-write-statements-start : tie.Need-part-write-statements-start
-part-write-statements-start c =
-    let s : List ℕ = now (c .before .before .before .before .before .before .before .before .before .before .before .before .before .before .before .before .before .before .before .before .before .before .before .before .args .table) in
-    let z : List ℕ = now (c .before .before .before .before .before .before .before .before .before .before .before .before .before .before .before .before .before .before .before .before .before .before .before .before .args .out) in
-    let (Γ, h, t) = rw (c .before .before .before .before .before .before .before .before .before .before .before .before .before .before .before .before .before .enum-told .given .1) at (c .before .before .before .before .before .before .before .before .before .before .before .before .before .before .before .before .before .before .before .before .type-slots .ensures .typed (search needs)) in
-    let q = c .before .before .before .before .before .before .before .before .before .before .before .before .before .before .before .before .symbol-count .ensures in
-    let few : c .before .before .before .before .before .before .before .before .before .before .before .before .before .before .before .before .symbol-count .result ≤ 96 = rw q (few-symbols s Γ t) in
-    let hs = rw q at (c .before .before .before .before .before .before .before .before .before .before .before .before .before .types-size .ensures .is Γ few h) in
-    let hn = c .before .before .before .before .before .before .before .before .before .before .before .before .before .before .before .statement-count .ensures .1 (t .sound) in
-    let m = need-is s Γ t _ _ _ _ z hs hn refl refl in
-    let r = c .before .before .before .before .before .before .before .before .before .before .before .check-room .ensures in
-    let e = c .before .before .before .before .before .before .before .before .before .enum-told3 .given .1 in
-    let f = room-for (listFile s) s z Γ t _ m _ r e in
-    let h₁ = rw q at (c .before .before .before .before .before .before .before .put-header .ensures) in
-    let w₁ = rw q at (c .before .before .put-types .ensures .wrote Γ few h (rw q (types-fit s Γ t _ _ _ _ z hs hn refl refl f _ h₁))) in
-    let k₁ = c .before .before .put-types .kept .0 in
-    omega (arith, need-is s Γ t _ _ _ _ z hs hn refl refl, f, length-types s Γ t _ _ _ _ z hs hn refl refl f _ h₁ _ k₁ w₁)
+part-write-statements-start c = omega (arith, needed (counting c), room (c .before .before .before .before .before .before .before .before .before), types-kept c)
 
 part-write-statements-end : tie.Need-part-write-statements-end
 part-write-statements-end c = search needs
@@ -189,21 +183,11 @@ same-length-2 c = search needs
 
 returns-3 : tie.Need-returns-3
 returns-3 c =
-    let s : List ℕ = now (c .before .before .before .before .before .before .before .before .before .before .before .before .before .before .before .before .before .before .before .before .before .before .before .before .before .before .before .before .args .table) in
-    let z : List ℕ = now (c .before .before .before .before .before .before .before .before .before .before .before .before .before .before .before .before .before .before .before .before .before .before .before .before .before .before .before .before .args .out) in
-    let (Γ, h, t) = rw (c .before .before .before .before .before .before .before .before .before .before .before .before .before .before .before .before .before .before .before .before .before .enum-told .given .1) at (c .before .before .before .before .before .before .before .before .before .before .before .before .before .before .before .before .before .before .before .before .before .before .before .before .type-slots .ensures .typed (search needs)) in
-    let q = c .before .before .before .before .before .before .before .before .before .before .before .before .before .before .before .before .before .before .before .before .symbol-count .ensures in
-    let few : c .before .before .before .before .before .before .before .before .before .before .before .before .before .before .before .before .before .before .before .before .symbol-count .result ≤ 96 = rw q (few-symbols s Γ t) in
-    let hs = rw q at (c .before .before .before .before .before .before .before .before .before .before .before .before .before .before .before .before .before .types-size .ensures .is Γ few h) in
-    let hn = c .before .before .before .before .before .before .before .before .before .before .before .before .before .before .before .before .before .before .before .statement-count .ensures .1 (t .sound) in
-    let m = need-is s Γ t _ _ _ _ z hs hn refl refl in
-    let r = c .before .before .before .before .before .before .before .before .before .before .before .before .before .before .before .check-room .ensures in
-    let e = c .before .before .before .before .before .before .before .before .before .before .before .before .before .enum-told3 .given .1 in
-    let f = room-for (listFile s) s z Γ t _ m _ r e in
-    let h₁ = rw q at (c .before .before .before .before .before .before .before .before .before .before .before .put-header .ensures) in
-    let w₁ = rw q at (c .before .before .before .before .before .before .put-types .ensures .wrote Γ few h (rw q (types-fit s Γ t _ _ _ _ z hs hn refl refl f _ h₁))) in
-    let k₁ = c .before .before .before .before .before .before .put-types .kept .0 in
-    all-written (listFile s) s z Γ t _ m _ _ r e (written-file s Γ t _ _ _ _ z hs hn refl refl f _ h₁ _ k₁ w₁ _ (c .before .before .write-statements .ensures))
+    let w : tie.After-slice-known3 = c .before .before .before .before in
+    let e : tie.After-enum-told3 = c .before .before .before .before .before .before .before .before .before .before .before .before .before in
+    let d : tie.After-types-size = tested e in
+    all-written (listFile (s d)) (s d) (z d) (slots d .Γ) (slots d .widest) _ (needed d) _ _ (e .before .before .check-room .ensures) (e .enum-told3 .given .1)
+    (written-file _ _ (slots d .widest) _ _ _ _ (z d) (sized d) (counted d) refl refl (room e) _ (header (headed w)) _ (w .before .before .put-types .kept .0) (types w) _ (c .before .before .write-statements .ensures))
 
 pub compile-spec : {M : Type 1} → statement M
 compile-spec =

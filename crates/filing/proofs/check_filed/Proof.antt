@@ -1,3 +1,4 @@
+-- `filing::check_filed` meets its contract. Assumes nothing.
 use borrow.Author.Needs.{needs}
 use Rattle.filing.proofs.Filing.{filed-none, filed-room, filed-alone, filed-equal, filed-more}
 use Rattle.entries.proofs.Words.{slice-bytes}

@@ -1,3 +1,4 @@
+-- `filing::check_unlike` meets its contract. Assumes nothing.
 use borrow.Author.Needs.{needs}
 use Rattle.filing.proofs.Filing.{all-free}
 use Rattle.filing.proofs.check_unlike.Statement.{statement}

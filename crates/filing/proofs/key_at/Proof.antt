@@ -1,3 +1,4 @@
+-- `filing::key_at` meets its contract. Assumes nothing.
 use Rattle.entries.proofs.Words.{slice-bytes, field-small}
 use Rattle.filing.specs.Filing.{keyOf}
 use native.Mathlib.Omega.{arith}

@@ -1,3 +1,4 @@
+-- `filing::way_of` meets its contract. Assumes nothing.
 use borrow.Author.Needs.{needs}
 use Rattle.filing.proofs.Filing.{way-end, way-out, way-free, way-twin, way-on}
 use Rattle.filing.specs.Filing.{keyOf, wayFrom, wayOf}

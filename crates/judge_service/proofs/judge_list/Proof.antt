@@ -1,19 +1,23 @@
 -- `judge_service::judge_list` meets its contract. Assumes nothing.
 use denote.Ref.{now}
-use mathlib.Core.Path.{_≡_, sym, _∙_}
-use mathlib.Core.List.{List}
-use Prim.Native.Nat.{ℕ, _≤_}
-use Rattle.answers.specs.Ladder.{least}
 use Rattle.answers.specs.declared.Check.the-variants.{Pass}
-use Rattle.list.specs.Faults.{listRungs}
 use Rattle.entries.proofs.Words.{slice-bytes}
-use Rattle.decoded_list.proofs.Reading.{list-decoded}
-use Rattle.compiled.specs.Compiled.{freeCount}
-use Rattle.type_service.proofs.ServiceLaws.{few-symbols}
-use Rattle.judge_service.proofs.Stages.{table-stops, list-stops, types-stop, verdict-given}
+use Rattle.type_service.specs.Services.{SlotsTyped}
+use Rattle.type_service.proofs.ServiceLaws.{typed}
+use Rattle.judge_service.proofs.Stages.{Left, table-stops, list-stops, compared, types-stop, verdict-given}
 use borrow.Author.Needs.{needs}
 use Rattle.judge_service.proofs.judge_list.Statement.{statement}
 use Rattle.judge_service.proofs.judge_list.Tie as tie
+
+-- the table passes: the slots hold its widest types
+passed : (c : tie.After-enum-told) → SlotsTyped (now (c .before .before .before .before .before .before .before .args .table)) (c .before .before .before .type-slots .last .1 .0) Pass
+passed c = rw (c .enum-told .given .1) at (c .before .before .before .type-slots .ensures .typed (search needs))
+
+-- the list has no fault 1 to 5, and its types are compared with them
+told : (c : tie.After-check-alike) → Left (now (c .before .before .before .before .before .before .before .before .before .before .before .before .before .before .args .table)) (now (c .before .before .before .before .before .before .before .before .before .before .before .before .before .before .args .list)) (c .check-alike .result)
+told c =
+    let k = typed (now (c .before .before .before .before .before .before .before .before .before .before .before .before .before .before .args .table)) _ _ (passed (c .before .before .before .before .before .before .before)) (c .before .symbol-count .ensures) in
+    compared _ _ _ _ _ _ _ k (slice-bytes _ (c .before .before .before .before .before .before .before .before .before .before .before .before .shared-slice-known2 .given)) (c .before .before .before .before .before .before .free-count .ensures (k .widest .sound)) (c .before .before .before .before .before .check-list .ensures) (c .before .before .before .enum-told3 .given .1) (c .check-alike .ensures)
 
 slice-aggregate-type-slots : tie.Need-slice-aggregate-type-slots
 slice-aggregate-type-slots c = search needs
@@ -44,7 +48,7 @@ enum-told-4 c = search needs
 
 returns-2 : tie.Need-returns-2
 returns-2 c =
-    let (Γ, h, w) = rw (c .before .before .before .before .enum-told .given .1) at (c .before .before .before .before .before .before .before .type-slots .ensures .typed (search needs)) in
+    let (Γ, h, w) = passed (c .before .before .before .before) in
     list-stops _ _ Γ w _ _ _ (c .before .before .before .free-count .ensures (w .sound)) (c .before .before .check-list .ensures) (c .enum-told4 .given .1)
 
 slice-aggregate-check-alike : tie.Need-slice-aggregate-check-alike
@@ -63,33 +67,13 @@ enum-told-6 : tie.Need-enum-told-6
 enum-told-6 c = search needs
 
 returns-3 : tie.Need-returns-3
-returns-3 c =
-    let t : List ℕ = now (c .before .before .before .before .before .before .before .before .before .before .before .before .before .before .before .before .args .table) in
-    let l : List ℕ = now (c .before .before .before .before .before .before .before .before .before .before .before .before .before .before .before .before .args .list) in
-    let (Γ, h, w) = rw (c .before .before .before .before .before .before .before .before .before .enum-told .given .1) at (c .before .before .before .before .before .before .before .before .before .before .before .before .type-slots .ensures .typed (search needs)) in
-    let n = c .before .before .before .before .before .before .before .before .free-count .ensures (w .sound) in
-    let e : least (listRungs l (freeCount t)) ≡ Pass = sym (rw n at (c .before .before .before .before .before .before .before .check-list .ensures)) ∙ c .before .before .before .before .before .enum-told3 .given .1 in
-    let d = list-decoded l (freeCount t) (slice-bytes l (c .before .before .before .before .before .before .before .before .before .before .before .before .before .before .shared-slice-known2 .given)) e in
-    let q = c .before .before .before .symbol-count .ensures in
-    let few : c .before .before .before .symbol-count .result ≤ 96 = rw q (few-symbols t Γ w) in
-    let a = rw q at (c .before .before .check-alike .ensures .matched Γ (freeCount t) h few e d) in
-    types-stop t l Γ w e d _ _ a (c .enum-told6 .given .1)
+returns-3 c = types-stop _ _ _ _ (told (c .before .before)) (c .enum-told6 .given .1)
 
 check-statements-requires : tie.Need-check-statements-requires
 check-statements-requires c κs = search needs
 
 returns-4 : tie.Need-returns-4
-returns-4 c =
-    let t : List ℕ = now (c .before .before .before .before .before .before .before .before .before .before .before .before .before .before .before .before .before .args .table) in
-    let l : List ℕ = now (c .before .before .before .before .before .before .before .before .before .before .before .before .before .before .before .before .before .args .list) in
-    let (Γ, h, w) = rw (c .before .before .before .before .before .before .before .before .before .before .enum-told .given .1) at (c .before .before .before .before .before .before .before .before .before .before .before .before .before .type-slots .ensures .typed (search needs)) in
-    let n = c .before .before .before .before .before .before .before .before .before .free-count .ensures (w .sound) in
-    let e : least (listRungs l (freeCount t)) ≡ Pass = sym (rw n at (c .before .before .before .before .before .before .before .before .check-list .ensures)) ∙ c .before .before .before .before .before .before .enum-told3 .given .1 in
-    let d = list-decoded l (freeCount t) (slice-bytes l (c .before .before .before .before .before .before .before .before .before .before .before .before .before .before .before .shared-slice-known2 .given)) e in
-    let q = c .before .before .before .before .symbol-count .ensures in
-    let few : c .before .before .before .before .symbol-count .result ≤ 96 = rw q (few-symbols t Γ w) in
-    let a = rw q at (c .before .before .before .check-alike .ensures .matched Γ (freeCount t) h few e d) in
-    verdict-given t l Γ w e d _ _ a (c .before .enum-told5 .given .1) (c .check-statements .ensures)
+returns-4 c = verdict-given _ _ _ _ (told (c .before .before .before)) (c .before .enum-told5 .given .1) (c .check-statements .ensures)
 
 pub judge-list-spec : {M : Type 1} → statement M
 judge-list-spec =

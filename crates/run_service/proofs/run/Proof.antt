@@ -1,7 +1,4 @@
 -- `run_service::run` meets its contract. Assumes nothing.
-use denote.Ref.{now}
-use mathlib.Core.List.{List}
-use Prim.Native.Nat.{ℕ}
 use Rattle.run_service.proofs.Stages.{run-refused, run-told}
 use borrow.Author.Needs.{needs}
 use Rattle.run_service.proofs.run.Statement.{statement}
@@ -35,13 +32,7 @@ same-length-4 : tie.Need-same-length-4
 same-length-4 c = search needs
 
 returns-2 : tie.Need-returns-2
-returns-2 c =
-    let t : List ℕ = now (c .before .before .before .before .before .before .before .before .before .before .before .before .before .before .before .before .before .args .table) in
-    let l : List ℕ = now (c .before .before .before .before .before .before .before .before .before .before .before .before .before .before .before .before .before .args .list) in
-    let tr : List ℕ = now (c .before .before .before .before .before .before .before .before .before .before .before .before .before .before .before .before .before .args .trace) in
-    let z : List ℕ = now (c .before .before .before .before .before .before .before .before .before .before .before .before .before .before .before .before .before .args .values) in
-    let y : List ℕ = now (c .before .before .before .before .before .before .before .before .before .before .before .before .before .before .before .before .before .args .log) in
-    run-told t l tr z y _ _ _ _ (c .before .before .before .before .before .before .before .before .before .check-run .ensures) (c .before .before .before .before .before .before .before .enum-told .given .1) (c .before .before .before .before .run-statements .ensures)
+returns-2 c = run-told _ _ _ _ _ _ _ _ _ (c .before .before .before .before .before .before .before .before .before .check-run .ensures) (c .before .before .before .before .before .before .before .enum-told .given .1) (c .before .before .before .before .run-statements .ensures)
 
 pub run-spec : {M : Type 1} → statement M
 run-spec =

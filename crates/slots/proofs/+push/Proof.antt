@@ -1,3 +1,4 @@
+-- `slots::push` meets its contract. Assumes nothing.
 use Prim.Native.Nat.{_-_}
 use lib.ListN.{length}
 use Rattle.slots.proofs.PushLaws.{pushed-past, pushed-message, pushed-symbol, pushed-not-pair, pushed-not-seal, pushed-seal, pushed-left, pushed-pair}

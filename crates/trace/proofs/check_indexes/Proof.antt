@@ -1,3 +1,4 @@
+-- `trace::check_indexes` meets its contract. Assumes nothing.
 use borrow.Author.Needs.{needs}
 use Rattle.answers.proofs.Ladder.{rung-found, rung-clean}
 use Rattle.base.specs.Search.{first}

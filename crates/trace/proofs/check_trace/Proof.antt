@@ -1,3 +1,4 @@
+-- `trace::check_trace` meets its contract. Assumes nothing.
 use borrow.Author.Needs.{needs}
 use mathlib.Core.List.{[], _∷_}
 use Rattle.answers.proofs.Layers.{layer-stops, layer-passes}

@@ -1,3 +1,4 @@
+-- `trace::counts_ok` meets its contract. Assumes nothing.
 use Rattle.trace.specs.Layout.{countsOk}
 use borrow.Author.Tests.{le-leb, lt-leb}
 use borrow.Author.Needs.{needs}

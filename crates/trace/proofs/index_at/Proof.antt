@@ -1,3 +1,4 @@
+-- `trace::index_at` meets its contract. Assumes nothing.
 use Rattle.trace.specs.Layout.{index}
 use mathlib.Core.Path.{_∙_}
 use borrow.Author.Needs.{needs}

@@ -1,3 +1,4 @@
+-- `trace::length_ok` meets its contract. Assumes nothing.
 use Rattle.trace.specs.Layout.{lengthOk}
 use borrow.Author.Needs.{needs}
 use Rattle.trace.proofs.length_ok.Statement.{statement}

@@ -1,3 +1,4 @@
+-- `trace::short_at` meets its contract. Assumes nothing.
 use Rattle.base.specs.Bytes.{word}
 use borrow.Author.Needs.{needs}
 use Rattle.trace.proofs.short_at.Statement.{statement}

@@ -1,3 +1,4 @@
+-- `trace::starting_at` meets its contract. Assumes nothing.
 use mathlib.Core.Path.{_∙_}
 use borrow.Author.Needs.{needs}
 use Rattle.trace.proofs.starting_at.Statement.{statement}

@@ -1,3 +1,4 @@
+-- `trace::supplies_at` meets its contract. Assumes nothing.
 use Rattle.entries.proofs.Words.{slice-bytes, word-small}
 use native.Mathlib.Omega.{arith}
 use borrow.Author.Needs.{needs}

@@ -1,3 +1,4 @@
+-- `trace::supply_at` meets its contract. Assumes nothing.
 use mathlib.Core.Path.{_∙_}
 use borrow.Author.Needs.{needs}
 use Rattle.trace.proofs.supply_at.Statement.{statement}

@@ -2,7 +2,7 @@
 use Prim.Native.Nat.{ℕ, _+_}
 use mathlib.Core.List.{List, [], _∷_}
 use Rattle.buffers.proofs.OverLaws.{over-fits}
-use Rattle.translate.specs.Registers.{makeBytes}
+use Rattle.translate.specs.Making.{makeBytes}
 use mathlib.Core.Path.{_∙_}
 use borrow.Author.Needs.{needs}
 use Rattle.translate.proofs.make_term.Statement.{statement}
@@ -29,6 +29,9 @@ add-put-four c = search needs
 put-four-requires : tie.Need-put-four-requires
 put-four-requires c κs = search needs
 
+add-note : tie.Need-add-note
+add-note c = search needs
+
 note-requires : tie.Need-note-requires
 note-requires c κs = search needs
 
@@ -38,9 +41,10 @@ same-length c = search needs
 returns : tie.Need-returns
 unfolding makeBytes
 returns c =
-    let w : List ℕ = (c .before .before .before .before .before .term-code .result + 6) ∷ c .before .before .before .before .before .before .before .before .before .before .register-of .result ∷ c .before .before .before .before .before .before .before .register-of2 .result ∷ 0 ∷ [] in
-    let z : List ℕ = c .before .before .before .before .before .before .before .before .before .before .before .before .before .before .before .args .out .now in
-    (rw (c .before .before .before .before .before .term-code .ensures, c .before .before .before .before .before .before .before .register-of2 .ensures, c .before .before .before .before .before .before .before .before .before .before .register-of .ensures, c .before .before .before .before .before .before .before .before .before .term-field2 .ensures, c .before .before .before .before .before .before .before .before .before .before .before .before .term-field .ensures) at (c .before .before .before .before .put-four .ensures .1 ∙ over-fits w z (c .before .before .before .before .before .before .before .before .before .before .before .before .before .before .before .pre .2)), c .note .ensures)
+    let z = c .before .before .before .before .before .before .before .before .before .before .before .before .before .before .before in
+    let p = c .before .before .before .before in
+    let w : List ℕ = (p .before .term-code .result + 6) ∷ p .before .before .before .before .before .before .register-of .result ∷ p .before .before .before .register-of2 .result ∷ 0 ∷ [] in
+    (rw (p .before .term-code .ensures, p .before .before .before .register-of2 .ensures, p .before .before .before .before .before .before .register-of .ensures, p .before .before .before .before .before .term-field2 .ensures, p .before .before .before .before .before .before .before .before .term-field .ensures) at (p .put-four .ensures .1 ∙ over-fits w (z .args .out .now) (z .pre .2)), c .note .ensures)
 
 pub make-term-spec : {M : Type 1} → statement M
 make-term-spec =
@@ -53,6 +57,7 @@ make-term-spec =
     term-code-requires
     add-put-four
     put-four-requires
+    add-note
     note-requires
     same-length
     returns)

@@ -1,18 +1,35 @@
 -- `translate::state_step` meets its contract. Assumes nothing.
-use Rattle.translate.proofs.StepLaws.{wrote-length}
+use Rattle.translate.specs.Making.{stateBytes, stepBytes}
+use Rattle.translate.proofs.StepLaws.{step-bytes, state-none, one-wrote}
 use Rattle.buffers.proofs.Parts.{part-length}
+use Rattle.buffers.proofs.OverLaws.{over-fits, over-none, over-lent}
+use Rattle.table_layout.specs.Layout.{stepField}
 use lib.ListN.{length, take, drop}
 use Prim.Native.Nat.{ℕ, _-_, _≤_}
-use Rattle.translate.specs.Registers.{stateBytes}
-use Rattle.table_layout.specs.Layout.{stepField}
-use Rattle.buffers.proofs.OverLaws.{over-fits, over-none, over-lent}
-use Rattle.translate.proofs.StepLaws.{step-bytes, state-none}
 use mathlib.Core.List.{List, [], _∷_}
 use native.Mathlib.Omega.{arith}
-use mathlib.Core.Path.{refl, sym, _∙_}
+use mathlib.Core.Path.{_≡_, refl, sym, _∙_}
 use borrow.Author.Needs.{needs}
 use Rattle.translate.proofs.state_step.Statement.{statement}
 use Rattle.translate.proofs.state_step.Tie as tie
+
+-- where the step's op, registers and first symbol are read: its statements, by the op
+abbrev start : tie.After-step-field3 → tie.Start
+start c = c .before .before .before .before .before .before .before .before
+
+abbrev later : tie.After-step-field3 → ℕ
+later c = stepField (start c .args .s .now) (start c .args .k) 3
+
+read : (c : tie.After-step-field3) (op : ℕ) → c .before .before .before .before .before .step-code .result ≡ op
+    → stepBytes (start c .args .s .now) (start c .args .k) (start c .args .symbols .now) (start c .args .terms .now) (start c .args .registers)
+    ≡ stateBytes op (c .before .before .before .register-of .result) (c .before .register-of2 .result) (c .step-field3 .result) (later c)
+read c op e =
+    step-bytes (start c .args .s .now) (start c .args .k) _ _ _ op _ _ _ _ (sym e ∙ c .before .before .before .before .before .step-code .ensures) (rw (c .before .before .before .before .step-field .ensures) at (c .before .before .before .register-of .ensures)) (rw (c .before .before .step-field2 .ensures) at (c .before .register-of2 .ensures)) (c .step-field3 .ensures) refl
+
+-- where the left half of a split is written: there is room for both
+room : (c : tie.After-put-four5) → 8 ≤ length (start (c .before .before .before) .args .out .now)
+unfolding stateBytes
+room c = rw (read (c .before .before .before) 4 (c .before .before .match .keys5)) at (start (c .before .before .before) .pre)
 
 step-code-requires : tie.Need-step-code-requires
 step-code-requires c κs = search needs
@@ -48,42 +65,10 @@ put-four-requires-5 : tie.Need-put-four-requires-5
 put-four-requires-5 c κs = search needs
 
 sub-put-four : tie.Need-sub-put-four
-unfolding stateBytes
-sub-put-four c =
-    let z = c .before .before .before .before .before .before .before .before .before .before .before .before .before in
-    let s : List ℕ = z .args .s .now in
-    let k : ℕ = z .args .k in
-    let v : List ℕ = z .args .out .now in
-    let p : ℕ = c .before .before .before .before .before .before .before .before .register-of .result in
-    let q : ℕ = c .before .before .before .before .before .before .register-of2 .result in
-    let x : ℕ = c .before .before .before .before .before .step-field3 .result in
-    let y : ℕ = stepField s k 3 in
-    let w : List ℕ = 4 ∷ p ∷ 0 ∷ x ∷ [] in
-    let b = step-bytes s k _ _ _ 4 p q x y (sym (c .before .before .before .before .match .keys5) ∙ c .before .before .before .before .before .before .before .before .before .before .step-code .ensures) (rw (c .before .before .before .before .before .before .before .before .before .step-field .ensures) at (c .before .before .before .before .before .before .before .before .register-of .ensures)) (rw (c .before .before .before .before .before .before .before .step-field2 .ensures) at (c .before .before .before .before .before .before .register-of2 .ensures)) (c .before .before .before .before .before .step-field3 .ensures) refl in
-    let n : 8 ≤ length v = rw b at (z .pre) in
-    let m : length w ≤ length v = omega arith in
-    let o = c .before .before .put-four5 .ensures .1 in
-    let t = wrote-length w v _ o m in
-    omega (arith, t)
+sub-put-four c = omega (arith, room (c .before .before), c .before .before .put-four5 .kept .0)
 
 part-put-four-start : tie.Need-part-put-four-start
-unfolding stateBytes
-part-put-four-start c =
-    let z = c .before .before .before .before .before .before .before .before .before .before .before .before .before in
-    let s : List ℕ = z .args .s .now in
-    let k : ℕ = z .args .k in
-    let v : List ℕ = z .args .out .now in
-    let p : ℕ = c .before .before .before .before .before .before .before .before .register-of .result in
-    let q : ℕ = c .before .before .before .before .before .before .register-of2 .result in
-    let x : ℕ = c .before .before .before .before .before .step-field3 .result in
-    let y : ℕ = stepField s k 3 in
-    let w : List ℕ = 4 ∷ p ∷ 0 ∷ x ∷ [] in
-    let b = step-bytes s k _ _ _ 4 p q x y (sym (c .before .before .before .before .match .keys5) ∙ c .before .before .before .before .before .before .before .before .before .before .step-code .ensures) (rw (c .before .before .before .before .before .before .before .before .before .step-field .ensures) at (c .before .before .before .before .before .before .before .before .register-of .ensures)) (rw (c .before .before .before .before .before .before .before .step-field2 .ensures) at (c .before .before .before .before .before .before .register-of2 .ensures)) (c .before .before .before .before .before .step-field3 .ensures) refl in
-    let n : 8 ≤ length v = rw b at (z .pre) in
-    let m : length w ≤ length v = omega arith in
-    let o = c .before .before .put-four5 .ensures .1 in
-    let t = wrote-length w v _ o m in
-    omega (arith, t)
+part-put-four-start c = omega (arith, room (c .before .before), c .before .before .put-four5 .kept .0)
 
 part-put-four-end : tie.Need-part-put-four-end
 part-put-four-end c = search needs
@@ -102,68 +87,28 @@ same-length c = search needs
 
 returns : tie.Need-returns
 unfolding stateBytes
-returns c =
-    let z = c .before .before .before .before .before .before .before .before .before .before .before .before .before in
-    let s : List ℕ = z .args .s .now in
-    let k : ℕ = z .args .k in
-    let v : List ℕ = z .args .out .now in
-    let p : ℕ = c .before .before .before .before .before .before .before .before .register-of .result in
-    let q : ℕ = c .before .before .before .before .before .before .register-of2 .result in
-    let x : ℕ = c .before .before .before .before .before .step-field3 .result in
-    let w : List ℕ = 0 ∷ p ∷ q ∷ 0 ∷ [] in
-    let b = step-bytes s k _ _ _ 0 p q x (stepField s k 3) (sym (c .before .before .before .before .match .keys1) ∙ c .before .before .before .before .before .before .before .before .before .before .step-code .ensures) (rw (c .before .before .before .before .before .before .before .before .before .step-field .ensures) at (c .before .before .before .before .before .before .before .before .register-of .ensures)) (rw (c .before .before .before .before .before .before .before .step-field2 .ensures) at (c .before .before .before .before .before .before .register-of2 .ensures)) (c .before .before .before .before .before .step-field3 .ensures) refl in
-    rw b (refl, c .before .before .put-four .ensures .1 ∙ over-fits w v (rw b at (z .pre)))
+returns c = one-wrote _ (read (c .before .before .before .before .before) 0 (c .before .before .before .before .match .keys1)) (c .before .before .before .before .before .before .before .before .before .before .before .before .before .pre) refl (c .before .before .put-four .ensures .1)
 
 same-length-2 : tie.Need-same-length-2
 same-length-2 c = search needs
 
 returns-2 : tie.Need-returns-2
 unfolding stateBytes
-returns-2 c =
-    let z = c .before .before .before .before .before .before .before .before .before .before .before .before .before in
-    let s : List ℕ = z .args .s .now in
-    let k : ℕ = z .args .k in
-    let v : List ℕ = z .args .out .now in
-    let p : ℕ = c .before .before .before .before .before .before .before .before .register-of .result in
-    let q : ℕ = c .before .before .before .before .before .before .register-of2 .result in
-    let x : ℕ = c .before .before .before .before .before .step-field3 .result in
-    let w : List ℕ = 1 ∷ p ∷ 0 ∷ x ∷ [] in
-    let b = step-bytes s k _ _ _ 1 p q x (stepField s k 3) (sym (c .before .before .before .before .match .keys2) ∙ c .before .before .before .before .before .before .before .before .before .before .step-code .ensures) (rw (c .before .before .before .before .before .before .before .before .before .step-field .ensures) at (c .before .before .before .before .before .before .before .before .register-of .ensures)) (rw (c .before .before .before .before .before .before .before .step-field2 .ensures) at (c .before .before .before .before .before .before .register-of2 .ensures)) (c .before .before .before .before .before .step-field3 .ensures) refl in
-    rw b (refl, c .before .before .put-four2 .ensures .1 ∙ over-fits w v (rw b at (z .pre)))
+returns-2 c = one-wrote _ (read (c .before .before .before .before .before) 1 (c .before .before .before .before .match .keys2)) (c .before .before .before .before .before .before .before .before .before .before .before .before .before .pre) refl (c .before .before .put-four2 .ensures .1)
 
 same-length-3 : tie.Need-same-length-3
 same-length-3 c = search needs
 
 returns-3 : tie.Need-returns-3
 unfolding stateBytes
-returns-3 c =
-    let z = c .before .before .before .before .before .before .before .before .before .before .before .before .before in
-    let s : List ℕ = z .args .s .now in
-    let k : ℕ = z .args .k in
-    let v : List ℕ = z .args .out .now in
-    let p : ℕ = c .before .before .before .before .before .before .before .before .register-of .result in
-    let q : ℕ = c .before .before .before .before .before .before .register-of2 .result in
-    let x : ℕ = c .before .before .before .before .before .step-field3 .result in
-    let w : List ℕ = 2 ∷ 0 ∷ 0 ∷ x ∷ [] in
-    let b = step-bytes s k _ _ _ 2 p q x (stepField s k 3) (sym (c .before .before .before .before .match .keys3) ∙ c .before .before .before .before .before .before .before .before .before .before .step-code .ensures) (rw (c .before .before .before .before .before .before .before .before .before .step-field .ensures) at (c .before .before .before .before .before .before .before .before .register-of .ensures)) (rw (c .before .before .before .before .before .before .before .step-field2 .ensures) at (c .before .before .before .before .before .before .register-of2 .ensures)) (c .before .before .before .before .before .step-field3 .ensures) refl in
-    rw b (refl, c .before .before .put-four3 .ensures .1 ∙ over-fits w v (rw b at (z .pre)))
+returns-3 c = one-wrote _ (read (c .before .before .before .before .before) 2 (c .before .before .before .before .match .keys3)) (c .before .before .before .before .before .before .before .before .before .before .before .before .before .pre) refl (c .before .before .put-four3 .ensures .1)
 
 same-length-4 : tie.Need-same-length-4
 same-length-4 c = search needs
 
 returns-4 : tie.Need-returns-4
 unfolding stateBytes
-returns-4 c =
-    let z = c .before .before .before .before .before .before .before .before .before .before .before .before .before in
-    let s : List ℕ = z .args .s .now in
-    let k : ℕ = z .args .k in
-    let v : List ℕ = z .args .out .now in
-    let p : ℕ = c .before .before .before .before .before .before .before .before .register-of .result in
-    let q : ℕ = c .before .before .before .before .before .before .register-of2 .result in
-    let x : ℕ = c .before .before .before .before .before .step-field3 .result in
-    let w : List ℕ = 3 ∷ p ∷ q ∷ 0 ∷ [] in
-    let b = step-bytes s k _ _ _ 3 p q x (stepField s k 3) (sym (c .before .before .before .before .match .keys4) ∙ c .before .before .before .before .before .before .before .before .before .before .step-code .ensures) (rw (c .before .before .before .before .before .before .before .before .before .step-field .ensures) at (c .before .before .before .before .before .before .before .before .register-of .ensures)) (rw (c .before .before .before .before .before .before .before .step-field2 .ensures) at (c .before .before .before .before .before .before .register-of2 .ensures)) (c .before .before .before .before .before .step-field3 .ensures) refl in
-    rw b (refl, c .before .before .put-four4 .ensures .1 ∙ over-fits w v (rw b at (z .pre)))
+returns-4 c = one-wrote _ (read (c .before .before .before .before .before) 3 (c .before .before .before .before .match .keys4)) (c .before .before .before .before .before .before .before .before .before .before .before .before .before .pre) refl (c .before .before .put-four4 .ensures .1)
 
 same-length-5 : tie.Need-same-length-5
 same-length-5 c = search needs
@@ -171,53 +116,26 @@ same-length-5 c = search needs
 returns-5 : tie.Need-returns-5
 unfolding stateBytes
 returns-5 c =
-    let z = c .before .before .before .before .before .before .before .before .before .before .before .before .before .before .before .before .before .before in
-    let s : List ℕ = z .args .s .now in
-    let k : ℕ = z .args .k in
-    let v : List ℕ = z .args .out .now in
-    let p : ℕ = c .before .before .before .before .before .before .before .before .before .before .before .before .before .register-of .result in
-    let q : ℕ = c .before .before .before .before .before .before .before .before .before .before .before .register-of2 .result in
-    let x : ℕ = c .before .before .before .before .before .before .before .before .before .before .step-field3 .result in
-    let y : ℕ = c .before .before .before .step-field4 .result in
-    let w : List ℕ = 4 ∷ p ∷ 0 ∷ x ∷ [] in
-    let b = step-bytes s k _ _ _ 4 p q x y (sym (c .before .before .before .before .before .before .before .before .before .match .keys5) ∙ c .before .before .before .before .before .before .before .before .before .before .before .before .before .before .before .step-code .ensures) (rw (c .before .before .before .before .before .before .before .before .before .before .before .before .before .before .step-field .ensures) at (c .before .before .before .before .before .before .before .before .before .before .before .before .before .register-of .ensures)) (rw (c .before .before .before .before .before .before .before .before .before .before .before .before .step-field2 .ensures) at (c .before .before .before .before .before .before .before .before .before .before .before .register-of2 .ensures)) (c .before .before .before .before .before .before .before .before .before .before .step-field3 .ensures) (c .before .before .before .step-field4 .ensures) in
-    let n : 8 ≤ length v = rw b at (z .pre) in
-    let m : length w ≤ length v = omega arith in
-    let o = c .before .before .before .before .before .before .before .put-four5 .ensures .1 in
-    let t = wrote-length w v _ o m in
-    let o₁ : List ℕ = c .before .before .before .before .before .before .before .put-four5 .last .0 in
-    let f : List ℕ = 5 ∷ p ∷ 0 ∷ y ∷ [] in
-    let r : 4 ≤ length (take (length o₁ - 4) (drop 4 o₁)) = rw (part-length 4 o₁) (omega (arith, t)) in
-    rw b (refl, over-lent w f v o₁ _ 4 refl (o ∙ over-fits w v m) (c .before .before .put-four6 .ensures .1 ∙ over-fits f (take (length o₁ - 4) (drop 4 o₁)) r))
+    let m = c .before .before .before .before .before .before .before .before .before .before in
+    let p : ℕ = m .before .before .before .register-of .result in
+    let w : List ℕ = 4 ∷ p ∷ 0 ∷ m .step-field3 .result ∷ [] in
+    let f : List ℕ = 5 ∷ p ∷ 0 ∷ c .before .before .before .step-field4 .result ∷ [] in
+    let v : List ℕ = start m .args .out .now in
+    let o : List ℕ = c .before .before .before .before .before .before .before .put-four5 .last .0 in
+    let h = room (c .before .before .before .before .before .before .before) in
+    let first = c .before .before .before .before .before .before .before .put-four5 .ensures .1 ∙ over-fits w v (omega arith) in
+    let part : 4 ≤ length (take (length o - 4) (drop 4 o)) = rw (part-length 4 o) (omega (arith, h, c .before .before .before .before .before .before .before .put-four5 .kept .0)) in
+    rw (read m 4 (c .before .before .before .before .before .before .before .before .before .match .keys5), ← c .before .before .before .step-field4 .ensures) (refl, over-lent w f v o _ 4 refl first (c .before .before .put-four6 .ensures .1 ∙ over-fits f (take (length o - 4) (drop 4 o)) part))
 
 same-length-6 : tie.Need-same-length-6
 same-length-6 c = search needs
 
 returns-6 : tie.Need-returns-6
 unfolding stateBytes
-returns-6 c =
-    let z = c .before .before .before .before .before .before .before .before .before .before .before .before .before in
-    let s : List ℕ = z .args .s .now in
-    let k : ℕ = z .args .k in
-    let v : List ℕ = z .args .out .now in
-    let p : ℕ = c .before .before .before .before .before .before .before .before .register-of .result in
-    let q : ℕ = c .before .before .before .before .before .before .register-of2 .result in
-    let x : ℕ = c .before .before .before .before .before .step-field3 .result in
-    let w : List ℕ = 6 ∷ p ∷ q ∷ x ∷ [] in
-    let b = step-bytes s k _ _ _ 5 p q x (stepField s k 3) (sym (c .before .before .before .before .match .keys6) ∙ c .before .before .before .before .before .before .before .before .before .before .step-code .ensures) (rw (c .before .before .before .before .before .before .before .before .before .step-field .ensures) at (c .before .before .before .before .before .before .before .before .register-of .ensures)) (rw (c .before .before .before .before .before .before .before .step-field2 .ensures) at (c .before .before .before .before .before .before .register-of2 .ensures)) (c .before .before .before .before .before .step-field3 .ensures) refl in
-    rw b (refl, c .before .before .put-four7 .ensures .1 ∙ over-fits w v (rw b at (z .pre)))
+returns-6 c = one-wrote _ (read (c .before .before .before .before .before) 5 (c .before .before .before .before .match .keys6)) (c .before .before .before .before .before .before .before .before .before .before .before .before .before .pre) refl (c .before .before .put-four7 .ensures .1)
 
 returns-7 : tie.Need-returns-7
-returns-7 c =
-    let z = c .before .before .before .before .before .before .before .before .before in
-    let s : List ℕ = z .args .s .now in
-    let k : ℕ = z .args .k in
-    let op : ℕ = c .before .before .before .before .before .before .step-code .result in
-    let p : ℕ = c .before .before .before .before .register-of .result in
-    let q : ℕ = c .before .before .register-of2 .result in
-    let x : ℕ = c .before .step-field3 .result in
-    let b = step-bytes s k _ _ _ op p q x (stepField s k 3) (c .before .before .before .before .before .before .step-code .ensures) (rw (c .before .before .before .before .before .step-field .ensures) at (c .before .before .before .before .register-of .ensures)) (rw (c .before .before .before .step-field2 .ensures) at (c .before .before .register-of2 .ensures)) (c .before .step-field3 .ensures) refl in
-    rw (b, state-none op p q x (stepField s k 3) (omega (arith, c .match .rest))) (refl, over-none _)
+returns-7 c = rw (read (c .before) _ refl, state-none (c .before .before .before .before .before .before .step-code .result) _ _ _ _ (omega (arith, c .match .rest))) (refl, over-none _)
 
 pub state-step-spec : {M : Type 1} → statement M
 state-step-spec =

@@ -1,5 +1,5 @@
 -- `translate::write_statements` meets its contract. Assumes nothing.
-use Rattle.translate.proofs.Ranged.{all-fits}
+use Rattle.statement_counts.proofs.Ranged.{all-fits}
 use Rattle.translate.proofs.Writing.{bytes-length}
 use Rattle.decoded_list.specs.Bytes.{statementsBytes}
 use Rattle.decoded.specs.Table.{tableOf}
@@ -12,12 +12,28 @@ use Rattle.answers.specs.declared.Check.the-variants.{Pass}
 use Rattle.answers.specs.Ladder.{least}
 use lib.ListN.{length}
 use mathlib.Core.List.{List}
-use Prim.Native.Nat.{ℕ, _-_, _<_, _≤_}
+use Prim.Native.Nat.{ℕ, _-_, _*_}
 use native.Mathlib.Omega.{arith}
 use mathlib.Core.Path.{_≡_, refl, sym, _∙_}
 use borrow.Author.Needs.{needs}
 use Rattle.translate.proofs.write_statements.Statement.{statement}
 use Rattle.translate.proofs.write_statements.Tie as tie
+
+-- where the statements are counted: the table has passed, so their number is known
+abbrev table : tie.After-statement-count → List ℕ
+table c = c .before .before .before .before .before .before .args .s .now
+
+abbrev bytes : tie.After-statement-count → List ℕ
+bytes c = statementsBytes (translation signature1 halves (tableOf (table c)))
+
+passed : (c : tie.After-statement-count) → least (tableRungs (table c)) ≡ Pass
+passed c = sym (c .before .before .before .check-table .ensures) ∙ c .before .enum-told .given .1
+
+counted : (c : tie.After-statement-count) → c .statement-count .result ≡ length (translation signature1 halves (tableOf (table c)))
+counted c = c .statement-count .ensures .1 (passed c)
+
+bytes-counted : (c : tie.After-statement-count) → length (bytes c) ≡ 4 * c .statement-count .result
+bytes-counted c = omega (arith, counted c, bytes-length (translation signature1 halves (tableOf (table c))))
 
 check-table-requires : tie.Need-check-table-requires
 check-table-requires c κs = search needs
@@ -35,47 +51,21 @@ statement-count-requires : tie.Need-statement-count-requires
 statement-count-requires c κs = search needs
 
 mul-if1 : tie.Need-mul-if1
-mul-if1 c =
-    let z = c .before .before .before .before .before .before in
-    let s : List ℕ = z .args .s .now in
-    let e : least (tableRungs s) ≡ Pass = sym (c .before .before .before .check-table .ensures) ∙ c .before .enum-told .given .1 in
-    let n = c .statement-count .ensures .1 e in
-    omega (arith, n, all-fits s e .0)
+mul-if1 c = omega (arith, counted c, all-fits (table c) (passed c) .0)
 
 put-statements-requires : tie.Need-put-statements-requires
-put-statements-requires c κs =
-    let z = c .before .before .before .before .before .before .before .before in
-    let s : List ℕ = z .args .s .now in
-    let e : least (tableRungs s) ≡ Pass = sym (c .before .before .before .before .before .check-table .ensures) ∙ c .before .before .before .enum-told .given .1 in
-    let n = c .before .before .statement-count .ensures .1 e in
-    (e, rw n at (c .before .if1 .taken))
+put-statements-requires c κs = (passed (c .before .before), rw (counted (c .before .before)) at (c .before .if1 .taken))
 
 same-length : tie.Need-same-length
 same-length c = search needs
 
 returns-2 : tie.Need-returns-2
 returns-2 c =
-    let z = c .before .before .before .before .before .before .before .before .before .before .before in
-    let s : List ℕ = z .args .s .now in
-    let e : least (tableRungs s) ≡ Pass = sym (c .before .before .before .before .before .before .before .before .check-table .ensures) ∙ c .before .before .before .before .before .before .enum-told .given .1 in
-    let n = c .before .before .before .before .before .statement-count .ensures .1 e in
-    let w : List ℕ = statementsBytes (translation signature1 halves (tableOf s)) in
-    let l = bytes-length (translation signature1 halves (tableOf s)) in
-    let v : List ℕ = z .args .out .now in
-    let h : length w ≤ length v = omega (arith, l, n, c .before .before .before .before .if1 .taken) in
-    rw e (c .before .before .put-statements .ensures ∙ sym (over-fits w v h))
+    let p = c .before .before .before .before .before in
+    rw (passed p) (c .before .before .put-statements .ensures ∙ sym (over-fits (bytes p) _ (omega (arith, bytes-counted p, c .before .before .before .before .if1 .taken))))
 
 returns-3 : tie.Need-returns-3
-returns-3 c =
-    let z = c .before .before .before .before .before .before .before in
-    let s : List ℕ = z .args .s .now in
-    let e : least (tableRungs s) ≡ Pass = sym (c .before .before .before .before .check-table .ensures) ∙ c .before .before .enum-told .given .1 in
-    let n = c .before .statement-count .ensures .1 e in
-    let w : List ℕ = statementsBytes (translation signature1 halves (tableOf s)) in
-    let l = bytes-length (translation signature1 halves (tableOf s)) in
-    let v : List ℕ = z .args .out .now in
-    let h : length v < length w = omega (arith, l, n, c .if1 .left) in
-    rw e (sym (over-short w v h))
+returns-3 c = rw (passed (c .before)) (sym (over-short (bytes (c .before)) _ (omega (arith, bytes-counted (c .before), c .if1 .left))))
 
 pub write-statements-spec : {M : Type 1} → statement M
 write-statements-spec =

@@ -1,17 +1,16 @@
+-- `type_bytes::meet` meets its contract. Assumes nothing.
 use mathlib.Core.List.{List}
+use mathlib.Core.Path.{_≡_, _∙_}
+use Prim.Native.Nat.{ℕ, _-_, _≤_, _<_, _+_}
+use native.Mathlib.Omega.{arith}
+use lib.ListN.{length, length-set}
+use denote.Ref.{now}
 use borrow.Rule.Slice.PartMut.{putMid}
+use borrow.Author.Needs.{needs}
+use Rattle.buffers.proofs.OverLaws.{lentRest, withRest, lent-length, rest-kept}
 use Rattle.type_bytes.specs.Meets.{Meets}
 use Rattle.type_bytes.specs.declared.Lower.the-variants.{Met}
-use Rattle.type_bytes.proofs.MeetLaws.{room-first, room-pair}
-use mathlib.Core.Path.{_≡_, refl, _∙_}
-use Prim.Native.Nat.{_-_, _≤_, _+_}
-use lib.ListN.{length, take, drop, set, length-set}
-use denote.Ref.{now}
-use Rattle.buffers.proofs.OverLaws.{lent-length}
-use Rattle.type_bytes.proofs.MeetLaws.{meets-past, meets-past-2, meets-full, meets-second, meets-first, meets-apart, meets-deep-apart, meets-cipher, meets-pair-apart, meets-pair}
-use borrow.Author.Needs.{needs}
-use native.Mathlib.Omega.{arith}
-use Prim.Native.Nat.{ℕ, _<_}
+use Rattle.type_bytes.proofs.MeetLaws.{Begun, room-first, meets-past, meets-past-2, meets-full, meets-second, meets-first, meets-apart, meets-deep-apart, meets-cipher, meets-pair-apart, meets-pair}
 use borrow.Fn.Kinds.{In}
 use borrow.Fn.PlainCycle.{Measures, is, falls, and}
 use Rattle.type_bytes.proofs.meet.Reads as meet
@@ -37,31 +36,54 @@ abbrev calls : ℕ → meet-lts.Claims
 calls t =
     (how-reads.Asked, how-reads.Learnt, copy-type-reads.Asked, copy-type-reads.Learnt, meet-below t, meet.Post, past-reads.Asked, past-reads.Learnt)
 
--- where the first parts' call has come back: the buffer at the start, its first byte, what came back, and the buffer now
-abbrev Back : ℕ → Type 0
-Back t = meet-lts.After-slice-known4 (calls t) (meet-at t) meet.Post
+-- ── What is known on the way ──
 
-abbrev begun : (t : ℕ) → Back t → List ℕ
-begun t c = set (now (c .before .before .before .before .before .before .before .before .before .before .before .before .before .before .before .before .args .out)) 0 (c .before .before .before .before .before .before .before .how .result)
+-- `how` has answered: there are two codes, and room
+module _ (t : ℕ) (c : meet-lts.After-how (calls t) (meet-at t) meet.Post) where
+  abbrev start : meet-lts.Start (calls t) (meet-at t) meet.Post
+  start = c .before .before .before .before .before .before .before .before .before
 
-abbrev buffer : (t : ℕ) → Back t → List ℕ
-buffer t c = putMid 1 (length (begun t c) - 1) (begun t c) (c .before .before .meet .last .0)
+  abbrev out : List ℕ
+  out = now (start .args .out)
 
-kept : (t : ℕ) (c : Back t) → length (buffer t c) ≡ length (now (c .before .before .before .before .before .before .before .before .before .before .before .before .before .before .before .before .args .out))
-kept t c = lent-length 1 (begun t c) (c .before .before .meet .last .0) (c .before .before .meet .kept .0) ∙ length-set (now (c .before .before .before .before .before .before .before .before .before .before .before .before .before .before .before .before .args .out)) 0 (c .before .before .before .before .before .before .before .how .result)
+  -- a property of the arguments and the answer
+  abbrev At : (List ℕ → ℕ → List ℕ → ℕ → List ℕ → ℕ → Type 0) → Type 0
+  At P = P (now (start .args .a)) (start .args .p) (now (start .args .b)) (start .args .q) out (c .how .result)
 
-some-room : (t : ℕ) (c : Back t) → 0 < length (now (c .before .before .before .before .before .before .before .before .before .before .before .before .before .before .before .before .args .out))
-some-room t c = omega (arith, c .before .before .before .before .before .before .before .before .before .before .if3 .left)
+  begun : At Begun
+  begun = record { in-a = c .before .before .before .before .before .if1 .left; in-b = c .before .before .before .before .if2 .left; room = omega (arith, c .before .before .before .if3 .left); says = c .how .ensures }
 
--- the first parts have a lower bound
-met : (t : ℕ) (c : meet-lts.After-known-told (calls t) (meet-at t) meet.Post)
-    → Meets (now (c .before .before .before .before .before .before .before .before .before .before .before .before .before .before .before .before .before .before .before .args .a)) (c .before .before .before .before .before .before .before .before .before .before .before .before .before .before .before .before .before .before .before .args .p + 1) (now (c .before .before .before .before .before .before .before .before .before .before .before .before .before .before .before .before .before .before .before .args .b)) (c .before .before .before .before .before .before .before .before .before .before .before .before .before .before .before .before .before .before .before .args .q + 1) (take (length (begun t (c .before .before .before)) - 1) (drop 1 (begun t (c .before .before .before)))) (c .before .before .before .before .before .meet .last .0) (Met (c .before .n .given .0 .0))
-met t c = rw (c .before .n .given .1) at (c .before .before .before .before .before .meet .ensures)
+  small : length out < 0x1_0000_0000_0000_0000
+  small = omega arith
 
-room : (t : ℕ) (c : meet-lts.After-known-told (calls t) (meet-at t) meet.Post) → c .before .n .given .0 .0 + 1 ≤ length (now (c .before .before .before .before .before .before .before .before .before .before .before .before .before .before .before .before .before .before .before .args .out))
-room t c =
-    let w = c .before .before .before .before .before .before .before .before .before .before in
-    room-first _ _ _ _ (w .before .before .before .before .before .if1 .left) (w .before .before .before .before .if2 .left) _ (w .how .ensures) (now (c .before .before .before .before .before .before .before .before .before .before .before .before .before .before .before .before .before .before .before .args .out)) (some-room t (c .before .before .before)) (c .before .before .before .before .before .before .before .if6 .left) _ _ (met t c)
+-- the call for the first parts has come back: the buffer
+module _ (t : ℕ) (c : meet-lts.After-slice-known4 (calls t) (meet-at t) meet.Post) where
+  abbrev told : meet-lts.After-how (calls t) (meet-at t) meet.Post
+  told = c .before .before .before .before .before .before .before
+
+  abbrev buffer : List ℕ
+  buffer = withRest (out t told) (told .how .result) (c .before .before .meet .last .0)
+
+  kept : length buffer ≡ length (out t told)
+  kept = rest-kept (out t told) (told .how .result) (c .before .before .meet .last .0) (c .before .before .meet .kept .0)
+
+-- they have a lower bound of n bytes
+module _ (t : ℕ) (c : meet-lts.After-known-told (calls t) (meet-at t) meet.Post) where
+  abbrev n : ℕ
+  n = c .before .n .given .0 .0
+
+  met : At t (c .before .before .before .before .before .before .before .before .before .before) (λ a p b q z h. Meets a (p + 1) b (q + 1) (lentRest z h) (c .before .before .before .before .before .meet .last .0) (Met n))
+  met = rw (c .before .n .given .1) at (c .before .before .before .before .before .meet .ensures)
+
+  room : n + 1 ≤ length (out t (c .before .before .before .before .before .before .before .before .before .before))
+  room = room-first (begun t (c .before .before .before .before .before .before .before .before .before .before)) (c .before .before .before .before .before .before .before .if6 .left) _ n met
+
+-- the call for the second parts has come back
+kept-2 : (t : ℕ) (c : meet-lts.After-meet2 (calls t) (meet-at t) meet.Post)
+    → length (putMid (n t (c .before .before .before .before .before) + 1) (length (buffer t (c .before .before .before .before .before .before .before .before)) - (n t (c .before .before .before .before .before) + 1)) (buffer t (c .before .before .before .before .before .before .before .before)) (c .meet2 .last .0)) ≡ length (out t (c .before .before .before .before .before .before .before .before .before .before .before .before .before .before .before))
+kept-2 t c = lent-length (n t (c .before .before .before .before .before) + 1) (buffer t (c .before .before .before .before .before .before .before .before)) (c .meet2 .last .0) (c .meet2 .kept .0) ∙ kept t (c .before .before .before .before .before .before .before .before)
+
+-- ── The needs ──
 
 meet-returns : (t : ℕ) → meet-lts.Need-returns (calls t) (meet-at t) meet.Post
 meet-returns t c = meets-past _ _ _ _ _ _ (c .if1 .taken)
@@ -88,9 +110,7 @@ meet-same-length : (t : ℕ) → meet-lts.Need-same-length (calls t) (meet-at t)
 meet-same-length t c = search needs
 
 meet-returns-4 : (t : ℕ) → meet-lts.Need-returns-4 (calls t) (meet-at t) meet.Post
-meet-returns-4 t c =
-    let w = c .before .before .before .before .before in
-    meets-second _ _ _ _ (w .before .before .before .before .before .if1 .left) (w .before .before .before .before .if2 .left) _ (w .how .ensures) _ _ _ (c .before .before .before .before .if4 .taken) (c .before .before .copy-type .ensures)
+meet-returns-4 t c = meets-second (begun t (c .before .before .before .before .before)) _ _ (c .before .before .before .before .if4 .taken) (c .before .before .copy-type .ensures)
 
 meet-copy-type-requires-2 : (t : ℕ) → meet-lts.Need-copy-type-requires-2 (calls t) (meet-at t) meet.Post
 meet-copy-type-requires-2 t c κs = tt
@@ -99,14 +119,10 @@ meet-same-length-2 : (t : ℕ) → meet-lts.Need-same-length-2 (calls t) (meet-a
 meet-same-length-2 t c = search needs
 
 meet-returns-5 : (t : ℕ) → meet-lts.Need-returns-5 (calls t) (meet-at t) meet.Post
-meet-returns-5 t c =
-    let w = c .before .before .before .before .before .before in
-    meets-first _ _ _ _ (w .before .before .before .before .before .if1 .left) (w .before .before .before .before .if2 .left) _ (w .how .ensures) _ _ _ (c .before .before .before .before .if5 .taken) (c .before .before .copy-type2 .ensures)
+meet-returns-5 t c = meets-first (begun t (c .before .before .before .before .before .before)) _ _ (c .before .before .before .before .if5 .taken) (c .before .before .copy-type2 .ensures)
 
 meet-returns-6 : (t : ℕ) → meet-lts.Need-returns-6 (calls t) (meet-at t) meet.Post
-meet-returns-6 t c =
-    let w = c .before .before .before in
-    meets-apart _ _ _ _ (w .before .before .before .before .before .if1 .left) (w .before .before .before .before .if2 .left) _ (w .how .ensures) _ _ (c .if6 .taken) (c .before .before .if4 .left) (c .before .if5 .left)
+meet-returns-6 t c = meets-apart (begun t (c .before .before .before)) _ (c .if6 .taken) (c .before .before .if4 .left) (c .before .if5 .left)
 
 meet-slice-write-out : (t : ℕ) → meet-lts.Need-slice-write-out (calls t) (meet-at t) meet.Post
 meet-slice-write-out t c = search needs
@@ -139,9 +155,7 @@ meet-same-length-3 : (t : ℕ) → meet-lts.Need-same-length-3 (calls t) (meet-a
 meet-same-length-3 t c = kept t (c .before .before)
 
 meet-returns-7 : (t : ℕ) → meet-lts.Need-returns-7 (calls t) (meet-at t) meet.Post
-meet-returns-7 t c =
-    let w = c .before .before .before .before .before .before .before .before .before in
-    meets-deep-apart _ _ _ _ (w .before .before .before .before .before .if1 .left) (w .before .before .before .before .if2 .left) _ (w .how .ensures) _ (some-room t (c .before .before)) (c .before .before .before .before .before .before .if6 .left) _ _ (rw (c .enum-told .given .1) at (c .before .before .before .before .meet .ensures))
+meet-returns-7 t c = meets-deep-apart (begun t (c .before .before .before .before .before .before .before .before .before)) (c .before .before .before .before .before .before .if6 .left) _ _ (rw (c .enum-told .given .1) at (c .before .before .before .before .meet .ensures))
 
 meet-add-m : (t : ℕ) → meet-lts.Need-add-m (calls t) (meet-at t) meet.Post
 meet-add-m t c = omega (arith, room t c)
@@ -150,9 +164,7 @@ meet-same-length-4 : (t : ℕ) → meet-lts.Need-same-length-4 (calls t) (meet-a
 meet-same-length-4 t c = kept t (c .before .before .before .before)
 
 meet-returns-8 : (t : ℕ) → meet-lts.Need-returns-8 (calls t) (meet-at t) meet.Post
-meet-returns-8 t c =
-    let w = c .before .before .before .before .before .before .before .before .before .before .before in
-    meets-cipher _ _ _ _ (w .before .before .before .before .before .if1 .left) (w .before .before .before .before .if2 .left) _ (w .how .ensures) _ (some-room t (c .before .before .before .before)) (c .before .before .before .before .before .before .before .before .if6 .left) _ _ (met t (c .before)) (c .if7 .taken)
+meet-returns-8 t c = meets-cipher (begun t (c .before .before .before .before .before .before .before .before .before .before .before)) (c .before .before .before .before .before .before .before .before .if6 .left) _ _ (met t (c .before)) (c .if7 .taken)
 
 meet-add-past : (t : ℕ) → meet-lts.Need-add-past (calls t) (meet-at t) meet.Post
 meet-add-past t c = search needs
@@ -185,27 +197,20 @@ meet-enum-told-2 : (t : ℕ) → meet-lts.Need-enum-told-2 (calls t) (meet-at t)
 meet-enum-told-2 t c = search needs
 
 meet-same-length-5 : (t : ℕ) → meet-lts.Need-same-length-5 (calls t) (meet-at t) meet.Post
-meet-same-length-5 t c = lent-length (c .before .before .before .before .before .before .before .before .before .before .n .given .0 .0 + 1) (buffer t (c .before .before .before .before .before .before .before .before .before .before .before .before)) (c .before .before .before .before .meet2 .last .0) (c .before .before .before .before .meet2 .kept .0) ∙ kept t (c .before .before .before .before .before .before .before .before .before .before .before .before)
+meet-same-length-5 t c = kept-2 t (c .before .before .before .before)
 
 meet-returns-9 : (t : ℕ) → meet-lts.Need-returns-9 (calls t) (meet-at t) meet.Post
-meet-returns-9 t c =
-    let w = c .before .before .before .before .before .before .before .before .before .before .before .before .before .before .before .before .before .before .before in
-    let k = c .before .before .before .before .before .before .before .before .before in
-    meets-pair-apart _ _ _ _ (w .before .before .before .before .before .if1 .left) (w .before .before .before .before .if2 .left) _ (w .how .ensures) _ (some-room t (c .before .before .before .before .before .before .before .before .before .before .before .before)) (c .before .before .before .before .before .before .before .before .before .before .before .before .before .before .before .before .if6 .left) _ _ (met t k) _ _ _ refl (c .before .before .before .before .before .before .before .before .if7 .left) (c .before .before .before .before .before .before .before .past .ensures) (c .before .before .before .before .before .before .past2 .ensures) (kept t (c .before .before .before .before .before .before .before .before .before .before .before .before)) _ _ (rw (c .enum-told2 .given .1) at (c .before .before .before .before .meet2 .ensures))
-
-meet-add-t12 : (t : ℕ) → meet-lts.Need-add-t12 (calls t) (meet-at t) meet.Post
-meet-add-t12 t c =
-    let w = c .before .before .before .before .before .before .before .before .before .before .before .before .before .before .before .before .before .before .before .before in
-    let q = room-pair _ _ _ _ (w .before .before .before .before .before .if1 .left) (w .before .before .before .before .if2 .left) _ (w .how .ensures) (now (c .before .before .before .before .before .before .before .before .before .before .before .before .before .before .before .before .before .before .before .before .before .before .before .before .before .before .before .before .before .args .out)) (some-room t (c .before .before .before .before .before .before .before .before .before .before .before .before .before)) (c .before .before .before .before .before .before .before .before .before .before .before .before .before .before .before .before .before .if6 .left) _ _ (met t (c .before .before .before .before .before .before .before .before .before .before)) _ _ _ refl (c .before .before .before .before .before .before .before .before .before .if7 .left) (c .before .before .before .before .before .before .before .before .past .ensures) (c .before .before .before .before .before .before .before .past2 .ensures) (kept t (c .before .before .before .before .before .before .before .before .before .before .before .before .before)) _ _ (rw (c .before .k .given .1) at (c .before .before .before .before .before .meet2 .ensures)) in
-    omega (arith, q)
+meet-returns-9 t c = meets-pair-apart (begun t (c .before .before .before .before .before .before .before .before .before .before .before .before .before .before .before .before .before .before .before)) (c .before .before .before .before .before .before .before .before .before .before .before .before .before .before .before .before .if6 .left) _ _ (met t (c .before .before .before .before .before .before .before .before .before)) _ _ (c .before .before .before .before .before .before .before .before .if7 .left) (c .before .before .before .before .before .before .before .past .ensures) (c .before .before .before .before .before .before .past2 .ensures) (kept t (c .before .before .before .before .before .before .before .before .before .before .before .before)) _ _ (rw (c .enum-told2 .given .1) at (c .before .before .before .before .meet2 .ensures))
 
 meet-same-length-6 : (t : ℕ) → meet-lts.Need-same-length-6 (calls t) (meet-at t) meet.Post
-meet-same-length-6 t c = lent-length (c .before .before .before .before .before .before .before .before .before .before .before .n .given .0 .0 + 1) (buffer t (c .before .before .before .before .before .before .before .before .before .before .before .before .before)) (c .before .before .before .before .before .meet2 .last .0) (c .before .before .before .before .before .meet2 .kept .0) ∙ kept t (c .before .before .before .before .before .before .before .before .before .before .before .before .before)
+meet-same-length-6 t c = kept-2 t (c .before .before .before .before .before)
 
 meet-returns-10 : (t : ℕ) → meet-lts.Need-returns-10 (calls t) (meet-at t) meet.Post
-meet-returns-10 t c =
-    let w = c .before .before .before .before .before .before .before .before .before .before .before .before .before .before .before .before .before .before .before .before in
-    meets-pair _ _ _ _ (w .before .before .before .before .before .if1 .left) (w .before .before .before .before .if2 .left) _ (w .how .ensures) _ (some-room t (c .before .before .before .before .before .before .before .before .before .before .before .before .before)) (c .before .before .before .before .before .before .before .before .before .before .before .before .before .before .before .before .before .if6 .left) _ _ (met t (c .before .before .before .before .before .before .before .before .before .before)) _ _ _ refl (c .before .before .before .before .before .before .before .before .before .if7 .left) (c .before .before .before .before .before .before .before .before .past .ensures) (c .before .before .before .before .before .before .before .past2 .ensures) (kept t (c .before .before .before .before .before .before .before .before .before .before .before .before .before)) _ _ (rw (c .before .k .given .1) at (c .before .before .before .before .before .meet2 .ensures))
+meet-returns-10 t c = meets-pair (begun t (c .before .before .before .before .before .before .before .before .before .before .before .before .before .before .before .before .before .before .before .before)) (c .before .before .before .before .before .before .before .before .before .before .before .before .before .before .before .before .before .if6 .left) _ _ (met t (c .before .before .before .before .before .before .before .before .before .before)) _ _ (c .before .before .before .before .before .before .before .before .before .if7 .left) (c .before .before .before .before .before .before .before .before .past .ensures) (c .before .before .before .before .before .before .before .past2 .ensures) (kept t (c .before .before .before .before .before .before .before .before .before .before .before .before .before)) _ _ (rw (c .before .k .given .1) at (c .before .before .before .before .before .meet2 .ensures))
+
+-- the answer's length, which fits
+meet-add-t12 : (t : ℕ) → meet-lts.Need-add-t12 (calls t) (meet-at t) meet.Post
+meet-add-t12 t c = omega (arith, meet-returns-10 t c .fits, small t (c .before .before .before .before .before .before .before .before .before .before .before .before .before .before .before .before .before .before .before .before))
 
 pub +meet-spec : {M : Type 1} → statement M
 +meet-spec = close μ-meet λ t. meet-lts.spec (calls t)

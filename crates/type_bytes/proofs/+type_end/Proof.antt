@@ -1,3 +1,4 @@
+-- `type_bytes::type_end` meets its contract. Assumes nothing.
 use borrow.Author.Needs.{needs}
 use native.Mathlib.Omega.{arith}
 use lib.ListN.{length}

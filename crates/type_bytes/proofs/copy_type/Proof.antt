@@ -1,4 +1,4 @@
--- the type at p ends before e
+-- `type_bytes::copy_type` meets its contract. Assumes nothing.
 use mathlib.Core.Option.{some}
 use native.Mathlib.Omega.{arith}
 use borrow.Author.Needs.{needs}
@@ -9,6 +9,7 @@ use Rattle.type_bytes.proofs.copy_type.Statement.{statement}
 use Rattle.type_bytes.proofs.copy_type.Tie as tie
 use denote.Ref.{now}
 
+-- the type at p ends before e
 ended : (c : tie.After-known-told) → EndIs codes1 (now (c .before .before .before .before .before .before .args .s)) (c .before .before .before .before .before .before .args .p) (some (c .before .e .given .0 .0))
 ended c = rw (c .before .e .given .1) at (c .before .before .before .type-end .ensures)
 

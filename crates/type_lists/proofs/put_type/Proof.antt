@@ -1,9 +1,8 @@
 -- `type_lists::put_type` meets its contract. Assumes nothing.
-use mathlib.Core.Path.{refl, _∙_}
-use lib.ListN.{set, length-set}
+use mathlib.Core.Path.{refl}
+use lib.ListN.{length-set}
 use denote.Ref.{now}
-use Rattle.buffers.proofs.OverLaws.{lent-length}
-use Prim.Native.Nat.{_-_}
+use Rattle.buffers.proofs.OverLaws.{rest-kept}
 use native.Mathlib.Omega.{arith}
 use Rattle.type_lists.proofs.ListLaws.{put-short, put-whole}
 use borrow.Author.Needs.{needs}
@@ -38,7 +37,7 @@ copy-requires : tie.Need-copy-requires
 copy-requires c κs = search needs
 
 same-length : tie.Need-same-length
-same-length c = lent-length 1 (set (now (c .before .before .before .before .before .before .before .before .args .out)) 0 _) (c .before .before .copy .last .0) (c .before .before .copy .kept .0) ∙ length-set (now (c .before .before .before .before .before .before .before .before .args .out)) 0 _
+same-length c = rest-kept (now (c .before .before .before .before .before .before .before .before .args .out)) _ (c .before .before .copy .last .0) (c .before .before .copy .kept .0)
 
 returns-2 : tie.Need-returns-2
 returns-2 c = put-whole _ (now (c .before .before .before .before .before .before .before .before .args .out)) _ _ (c .before .before .before .before .before .slot-type .ensures) (c .before .before .before .before .if1 .left) _ refl _ (c .before .before .copy .ensures .1)

@@ -1,11 +1,15 @@
 -- `type_lists::slot_type` meets its contract. Assumes nothing.
 use mathlib.Core.Path.{refl, ap}
-use Prim.Native.Nat.{ℕ, _*_, _-_}
+use Prim.Native.Nat.{ℕ, _*_, _≤_}
 use native.Mathlib.Omega.{arith}
 use Rattle.type_lists.proofs.SlotTypes.{type-past, type-missing, type-inside, type-is}
 use borrow.Author.Needs.{needs}
 use Rattle.type_lists.proofs.slot_type.Statement.{statement}
 use Rattle.type_lists.proofs.slot_type.Tie as tie
+
+-- the type lies inside its slot
+inside : (c : tie.After-known-told) → c .before .n .given .0 .0 ≤ 129
+inside c = type-inside _ _ _ _ (ap (λ (n : ℕ). n * 129) (c .before .before .before .before .before .before .wide .ensures)) refl _ (rw (c .before .n .given .1) at (c .before .before .before .type-end .ensures))
 
 wide-requires : tie.Need-wide-requires
 wide-requires c κs = search needs
@@ -59,7 +63,7 @@ returns-2 : tie.Need-returns-2
 returns-2 c = type-missing _ _ _ _ (ap (λ (n : ℕ). n * 129) (c .before .before .before .before .before .before .wide .ensures)) refl (rw (c .before .enum-told .given .1) at (c .before .before .before .type-end .ensures))
 
 add-end : tie.Need-add-end
-add-end c = omega (arith, type-inside _ _ _ _ (ap (λ (n : ℕ). n * 129) (c .before .before .before .before .before .before .wide .ensures)) refl _ (rw (c .before .n .given .1) at (c .before .before .before .type-end .ensures)))
+add-end c = omega (arith, inside c)
 
 sub-result-3 : tie.Need-sub-result-3
 sub-result-3 c = search needs
@@ -68,7 +72,7 @@ part-result-start-3 : tie.Need-part-result-start-3
 part-result-start-3 c = search needs
 
 part-result-end-3 : tie.Need-part-result-end-3
-part-result-end-3 c = omega (arith, type-inside _ _ _ _ (ap (λ (n : ℕ). n * 129) (c .before .before .before .before .before .before .wide .ensures)) refl _ (rw (c .before .n .given .1) at (c .before .before .before .type-end .ensures)), c .before .before .before .before .before .if1 .left)
+part-result-end-3 c = omega (arith, inside c, c .before .before .before .before .before .if1 .left)
 
 returns-3 : tie.Need-returns-3
 returns-3 c = type-is _ _ _ _ (ap (λ (n : ℕ). n * 129) (c .before .before .before .before .before .before .before .wide .ensures)) refl _ (rw (c .before .before .n .given .1) at (c .before .before .before .before .type-end .ensures)) _ refl

@@ -1,6 +1,5 @@
 -- `type_service::type_slots` meets its contract. Assumes nothing.
 use Rattle.type_service.proofs.ServiceLaws.{slots-faulty, slots-untyped, slots-widest}
-use Rattle.type_service.proofs.ServiceLaws.{slots-faulty, slots-untyped, slots-widest}
 use borrow.Author.Needs.{needs}
 use Rattle.type_service.proofs.type_slots.Statement.{statement}
 use Rattle.type_service.proofs.type_slots.Tie as tie

@@ -1,12 +1,25 @@
 -- `type_service::type_table` meets its contract. Assumes nothing.
 use denote.Ref.{now}
+use mathlib.Core.Path.{_≡_}
 use mathlib.Core.List.{List}
-use Prim.Native.Nat.{ℕ, _≤_}
-use Rattle.type_service.proofs.ServiceLaws.{passed-on, no-room, room-for, all-written, few-symbols}
+use Prim.Native.Nat.{ℕ}
+use lib.ListN.{length}
+use Rattle.type_service.proofs.ServiceLaws.{Typed, typed, types-counted, types-written, passed-on, no-room, room-for, all-written}
 use Rattle.type_service.specs.Services.{typesFile}
 use borrow.Author.Needs.{needs}
 use Rattle.type_service.proofs.type_table.Statement.{statement}
 use Rattle.type_service.proofs.type_table.Tie as tie
+
+-- where the types' bytes are counted: the slots hold the widest types of the table s, and so many bytes are needed
+module _ (c : tie.After-types-size) where
+  abbrev s : List ℕ
+  s = now (c .before .before .before .before .before .before .before .before .before .before .args .table)
+
+  slots : Typed s (c .before .before .before .before .before .before .type-slots .last .1 .0) (c .before .before .symbol-count .result)
+  slots = typed _ _ _ (rw (c .before .before .before .enum-told .given .1) at (c .before .before .before .before .before .before .type-slots .ensures .typed (search needs))) (c .before .before .symbol-count .ensures)
+
+  counted : c .types-size .result ≡ length (typesFile s (slots .Γ))
+  counted = types-counted _ _ _ slots _ (c .types-size .ensures)
 
 slice-aggregate-type-slots : tie.Need-slice-aggregate-type-slots
 slice-aggregate-type-slots c = search needs
@@ -46,11 +59,8 @@ same-length c = search needs
 
 returns-2 : tie.Need-returns-2
 returns-2 c =
-    let s : List ℕ = now (c .before .before .before .before .before .before .before .before .before .before .before .before .before .before .args .table) in
-    let (Γ, h, t) = rw (c .before .before .before .before .before .before .before .enum-told .given .1) at (c .before .before .before .before .before .before .before .before .before .before .type-slots .ensures .typed (search needs)) in
-    let q = c .before .before .before .before .before .before .symbol-count .ensures in
-    let m = rw q at (c .before .before .before .before .types-size .ensures .is Γ (rw q (few-symbols s Γ t)) h) in
-    no-room (typesFile s) s _ Γ t _ m _ _ (c .before .before .check-room .ensures) (c .enum-told4 .given .1)
+    let d : tie.After-types-size = c .before .before .before .before in
+    no-room (typesFile (s d)) (s d) _ (slots d .Γ) (slots d .widest) _ (counted d) _ _ (c .before .before .check-room .ensures) (c .enum-told4 .given .1)
 
 slice-aggregate-put-types : tie.Need-slice-aggregate-put-types
 slice-aggregate-put-types c = search needs
@@ -63,16 +73,12 @@ same-length-2 c = search needs
 
 returns-3 : tie.Need-returns-3
 returns-3 c =
-    let s : List ℕ = now (c .before .before .before .before .before .before .before .before .before .before .before .before .before .before .before .before .before .before .before .args .table) in
+    let d : tie.After-types-size = c .before .before .before .before .before .before .before .before .before in
     let z : List ℕ = now (c .before .before .before .before .before .before .before .before .before .before .before .before .before .before .before .before .before .before .before .args .out) in
-    let (Γ, h, t) = rw (c .before .before .before .before .before .before .before .before .before .before .before .before .enum-told .given .1) at (c .before .before .before .before .before .before .before .before .before .before .before .before .before .before .before .type-slots .ensures .typed (search needs)) in
-    let q = c .before .before .before .before .before .before .before .before .before .before .before .symbol-count .ensures in
-    let few : c .before .before .before .before .before .before .before .before .before .before .before .symbol-count .result ≤ 96 = rw q (few-symbols s Γ t) in
-    let m = rw q at (c .before .before .before .before .before .before .before .before .before .types-size .ensures .is Γ few h) in
     let r = c .before .before .before .before .before .before .before .check-room .ensures in
     let e = c .before .before .before .before .before .enum-told3 .given .1 in
-    let w = rw q at (c .before .before .put-types .ensures .wrote Γ few h (rw q (room-for (typesFile s) s z Γ t _ m _ r e))) in
-    all-written (typesFile s) s z Γ t _ m _ _ r e w
+    let f = room-for (typesFile (s d)) (s d) z (slots d .Γ) (slots d .widest) _ (counted d) _ r e in
+    all-written (typesFile (s d)) (s d) z (slots d .Γ) (slots d .widest) _ (counted d) _ _ r e (types-written _ _ _ (slots d) _ _ (c .before .before .put-types .ensures) f)
 
 pub type-table-spec : {M : Type 1} → statement M
 type-table-spec =

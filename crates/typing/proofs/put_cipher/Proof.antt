@@ -1,9 +1,9 @@
 -- `typing::put_cipher` meets its contract. Assumes nothing.
-use mathlib.Core.Path.{refl, _∙_}
+use mathlib.Core.Path.{refl}
 use native.Mathlib.Omega.{arith}
-use lib.ListN.{set, length-set}
+use lib.ListN.{length-set}
 use borrow.Author.Needs.{needs}
-use Rattle.buffers.proofs.OverLaws.{lent-length}
+use Rattle.buffers.proofs.OverLaws.{rest-kept}
 use Rattle.typing.proofs.WantLaws.{cipher-put}
 use Rattle.typing.proofs.put_cipher.Statement.{statement}
 use Rattle.typing.proofs.put_cipher.Tie as tie
@@ -25,7 +25,7 @@ put-slot-requires : tie.Need-put-slot-requires
 put-slot-requires c κs = search needs
 
 same-length : tie.Need-same-length
-same-length c = lent-length 1 (set (now (c .before .before .before .before .before .before .args .out)) 0 5) (c .before .before .put-slot .last .0) (c .before .before .put-slot .kept .0) ∙ length-set (now (c .before .before .before .before .before .before .args .out)) 0 5
+same-length c = rest-kept (now (c .before .before .before .before .before .before .args .out)) 5 (c .before .before .put-slot .last .0) (c .before .before .put-slot .kept .0)
 
 returns : tie.Need-returns
 returns c = cipher-put _ (now (c .before .before .before .before .before .before .args .out)) _ (c .before .before .before .before .before .before .pre) _ _ _ (c .before .before .put-slot .ensures) refl

@@ -1,25 +1,26 @@
--- where the first type has come back
+-- `typing::put_pair` meets its contract. Assumes nothing.
 use mathlib.Core.Path.{_≡_, refl, _∙_}
 use mathlib.Core.List.{List}
-use Prim.Native.Nat.{ℕ, _+_, _-_, _≤_}
+use Prim.Native.Nat.{ℕ, _+_, _≤_}
 use native.Mathlib.Omega.{arith}
-use lib.ListN.{length, set, length-set}
-use borrow.Rule.Slice.PartMut.{putMid}
+use lib.ListN.{length, length-set}
+use denote.Ref.{now}
 use borrow.Author.Needs.{needs}
-use Rattle.buffers.proofs.OverLaws.{lent-length}
+use Rattle.buffers.proofs.OverLaws.{withRest, lent-length, rest-kept}
 use Rattle.typing.proofs.WantLaws.{slot-room, pair-put}
 use Rattle.typing.proofs.put_pair.Statement.{statement}
 use Rattle.typing.proofs.put_pair.Tie as tie
-use denote.Ref.{now}
 
-abbrev begun : tie.After-slice-known2 → List ℕ
-begun c = set (now (c .before .before .before .before .before .before .args .out)) 0 4
+-- the first type has come back
+module _ (c : tie.After-slice-known2) where
+  abbrev out : List ℕ
+  out = now (c .before .before .before .before .before .before .args .out)
 
-kept : (c : tie.After-slice-known2) → length (putMid 1 (length (begun c) - 1) (begun c) (c .before .before .put-slot .last .0)) ≡ length (now (c .before .before .before .before .before .before .args .out))
-kept c = lent-length 1 (begun c) (c .before .before .put-slot .last .0) (c .before .before .put-slot .kept .0) ∙ length-set (now (c .before .before .before .before .before .before .args .out)) 0 4
+  kept : length (withRest out 4 (c .before .before .put-slot .last .0)) ≡ length out
+  kept = rest-kept out 4 (c .before .before .put-slot .last .0) (c .before .before .put-slot .kept .0)
 
-room : (c : tie.After-slice-known2) → c .before .before .put-slot .result + 1 ≤ length (now (c .before .before .before .before .before .before .args .out))
-room c = slot-room (now (c .before .before .before .before .before .before .args .work)) (now (c .before .before .before .before .before .before .args .out)) 4 (c .before .before .before .before .before .before .pre) _ _ _ (c .before .before .put-slot .ensures)
+  room : c .before .before .put-slot .result + 1 ≤ length out
+  room = slot-room (now (c .before .before .before .before .before .before .args .work)) out 4 (c .before .before .before .before .before .before .pre) _ _ _ (c .before .before .put-slot .ensures)
 
 slice-write-out : tie.Need-slice-write-out
 slice-write-out c = search needs
@@ -52,10 +53,14 @@ put-slot-requires-2 : tie.Need-put-slot-requires-2
 put-slot-requires-2 c κs = search needs
 
 same-length : tie.Need-same-length
-same-length c = lent-length (c .before .before .before .before .before .before .put-slot .result + 1) (putMid 1 (length (begun (c .before .before .before .before)) - 1) (begun (c .before .before .before .before)) (c .before .before .before .before .before .before .put-slot .last .0)) (c .before .before .put-slot2 .last .0) (c .before .before .put-slot2 .kept .0) ∙ kept (c .before .before .before .before)
+same-length c =
+    let d : tie.After-slice-known2 = c .before .before .before .before in
+    lent-length (d .before .before .put-slot .result + 1) (withRest (out d) 4 (d .before .before .put-slot .last .0)) (c .before .before .put-slot2 .last .0) (c .before .before .put-slot2 .kept .0) ∙ kept d
 
 returns : tie.Need-returns
-returns c = pair-put _ (now (c .before .before .before .before .before .before .before .before .before .before .args .out)) _ (c .before .before .before .before .before .before .before .before .before .before .pre) _ _ _ (c .before .before .before .before .before .before .put-slot .ensures) refl (kept (c .before .before .before .before)) _ _ _ _ refl (c .before .before .put-slot2 .ensures)
+returns c =
+    let d : tie.After-slice-known2 = c .before .before .before .before in
+    pair-put _ (out d) _ (d .before .before .before .before .before .before .pre) _ _ _ (d .before .before .put-slot .ensures) refl (kept d) _ _ _ _ refl (c .before .before .put-slot2 .ensures)
 
 pub put-pair-spec : {M : Type 1} → statement M
 put-pair-spec =

@@ -2,40 +2,13 @@
 
 use crate::role::{Protocol, Role};
 use crate::table::{sealed, tuple, TableWriter};
-use crate::trace::{TraceWriter, Value};
+use crate::trace::Value;
+use crate::world::World;
 
 pub fn protocol() -> Protocol {
     Protocol {
         folder: "needham-schroeder",
         roles: vec![alice(), server(), bob()],
-    }
-}
-
-/// The values that all roles share.
-struct World {
-    v: TraceWriter,
-    net: Value,
-    a: Value,
-    b: Value,
-    kas: Value,
-    kbs: Value,
-    kab: Value,
-    na: Value,
-    nb: Value,
-}
-
-fn world() -> World {
-    let mut v = TraceWriter::default();
-    World {
-        net: v.channel(0),
-        a: v.plain(1),
-        b: v.plain(2),
-        kas: v.key(1),
-        kbs: v.key(2),
-        kab: v.key(3),
-        na: v.plain(10),
-        nb: v.plain(20),
-        v,
     }
 }
 
@@ -55,7 +28,7 @@ fn alice() -> Role {
     t.send(&net, &sealed(&[&nb, &nb], &kab));
 
     let night = |answered: u16| {
-        let mut w = world();
+        let mut w = World::create();
         let answered = w.v.plain(answered);
         let ticket = w.v.sealed(&[w.kab, w.a], w.kbs);
         let second = w.v.sealed(&[answered, w.b, w.kab, ticket], w.kas);
@@ -79,7 +52,7 @@ fn server() -> Role {
     t.send(&net, &sealed(&[&n, &b, &kab, &ticket], &kas));
 
     let night = |from: fn(&mut World) -> Value| {
-        let mut w = world();
+        let mut w = World::create();
         let from = from(&mut w);
         let first = w.v.tuple(&[from, w.b, w.na]);
         w.v.finish(&[w.net, w.a, w.b, w.kas, w.kbs], &[first, w.kab])
@@ -106,7 +79,7 @@ fn bob() -> Role {
 
     // The ticket's key, and the key of the answer.
     let night = |ticket: u16, answer: u16| {
-        let mut w = world();
+        let mut w = World::create();
         let (ticket_key, answer_key) = (w.v.key(ticket), w.v.key(answer));
         let third = w.v.sealed(&[ticket_key, w.a], w.kbs);
         let fifth = w.v.sealed(&[w.nb, w.nb], answer_key);

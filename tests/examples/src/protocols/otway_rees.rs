@@ -2,44 +2,13 @@
 
 use crate::role::{Protocol, Role};
 use crate::table::{sealed, tuple, TableWriter};
-use crate::trace::{TraceWriter, Value};
+use crate::trace::Value;
+use crate::world::World;
 
 pub fn protocol() -> Protocol {
     Protocol {
         folder: "otway-rees",
         roles: vec![alice(), bob(), server()],
-    }
-}
-
-/// The values that all roles share.
-struct World {
-    v: TraceWriter,
-    net: Value,
-    a: Value,
-    b: Value,
-    kas: Value,
-    kbs: Value,
-    kab: Value,
-    m: Value,
-    na: Value,
-    nb: Value,
-    message: Value,
-}
-
-fn world() -> World {
-    let mut v = TraceWriter::default();
-    World {
-        net: v.channel(0),
-        a: v.plain(1),
-        b: v.plain(2),
-        kas: v.key(1),
-        kbs: v.key(2),
-        kab: v.key(3),
-        m: v.plain(30),
-        na: v.plain(10),
-        nb: v.plain(20),
-        message: v.plain(100),
-        v,
     }
 }
 
@@ -58,16 +27,17 @@ fn alice() -> Role {
     t.compare(&n, &na);
     t.send(&net, &sealed(&[&message], &kab));
 
-    let night = |inside: fn(&World) -> Vec<Value>| {
-        let mut w = world();
-        let inside = inside(&w);
+    let night = |inside: fn(&World, Value) -> Vec<Value>| {
+        let mut w = World::create();
+        let (m, message) = (w.v.plain(30), w.v.plain(100));
+        let inside = inside(&w, m);
         let token = w.v.sealed(&inside, w.kas);
-        let fourth = w.v.tuple(&[w.m, token]);
-        w.v.finish(&[w.net, w.a, w.b, w.kas, w.message], &[w.m, w.na, fourth])
+        let fourth = w.v.tuple(&[m, token]);
+        w.v.finish(&[w.net, w.a, w.b, w.kas, message], &[m, w.na, fourth])
     };
     Role::new("alice", t)
-        .night("good", 0, night(|w| vec![w.na, w.kab]))
-        .night("reflected", 5, night(|w| vec![w.na, w.m, w.a, w.b]))
+        .night("good", 0, night(|w, _| vec![w.na, w.kab]))
+        .night("reflected", 5, night(|w, m| vec![w.na, m, w.a, w.b]))
 }
 
 fn bob() -> Role {
@@ -91,14 +61,15 @@ fn bob() -> Role {
     t.send(&shelf, &message);
 
     let night = |answered: u16| {
-        let mut w = world();
+        let mut w = World::create();
+        let (m, message) = (w.v.plain(30), w.v.plain(100));
         let (shelf, answered) = (w.v.channel(1), w.v.plain(answered));
-        let token = w.v.sealed(&[w.na, w.m, w.a, w.b], w.kas);
-        let first = w.v.tuple(&[w.m, w.a, w.b, token]);
+        let token = w.v.sealed(&[w.na, m, w.a, w.b], w.kas);
+        let first = w.v.tuple(&[m, w.a, w.b, token]);
         let for_a = w.v.sealed(&[w.na, w.kab], w.kas);
         let for_b = w.v.sealed(&[answered, w.kab], w.kbs);
-        let third = w.v.tuple(&[w.m, for_a, for_b]);
-        let fifth = w.v.sealed(&[w.message], w.kab);
+        let third = w.v.tuple(&[m, for_a, for_b]);
+        let fifth = w.v.sealed(&[message], w.kab);
         w.v.finish(&[w.net, w.a, w.b, w.kbs, shelf], &[first, w.nb, third, fifth])
     };
     Role::new("bob", t)
@@ -130,11 +101,11 @@ fn server() -> Role {
     );
 
     let night = |of_b: u16| {
-        let mut w = world();
-        let other = w.v.plain(of_b);
-        let of_a = w.v.sealed(&[w.na, w.m, w.a, w.b], w.kas);
+        let mut w = World::create();
+        let (m, other) = (w.v.plain(30), w.v.plain(of_b));
+        let of_a = w.v.sealed(&[w.na, m, w.a, w.b], w.kas);
         let of_b = w.v.sealed(&[w.nb, other, w.a, w.b], w.kbs);
-        let second = w.v.tuple(&[w.m, w.a, w.b, of_a, of_b]);
+        let second = w.v.tuple(&[m, w.a, w.b, of_a, of_b]);
         w.v.finish(&[w.net, w.a, w.b, w.kas, w.kbs], &[second, w.kab])
     };
     Role::new("server", t)

@@ -2,40 +2,13 @@
 
 use crate::role::{Protocol, Role};
 use crate::table::{sealed, tuple, TableWriter};
-use crate::trace::{TraceWriter, Value};
+use crate::trace::Value;
+use crate::world::World;
 
 pub fn protocol() -> Protocol {
     Protocol {
         folder: "yahalom",
         roles: vec![alice(), bob(), server()],
-    }
-}
-
-/// The values that all roles share.
-struct World {
-    v: TraceWriter,
-    net: Value,
-    a: Value,
-    b: Value,
-    kas: Value,
-    kbs: Value,
-    kab: Value,
-    na: Value,
-    nb: Value,
-}
-
-fn world() -> World {
-    let mut v = TraceWriter::default();
-    World {
-        net: v.channel(0),
-        a: v.plain(1),
-        b: v.plain(2),
-        kas: v.key(1),
-        kbs: v.key(2),
-        kab: v.key(3),
-        na: v.plain(10),
-        nb: v.plain(20),
-        v,
     }
 }
 
@@ -53,7 +26,7 @@ fn alice() -> Role {
     t.send(&net, &tuple(&[&ticket, &sealed(&[&nb], &kab)]));
 
     let night = |answered: u16| {
-        let mut w = world();
+        let mut w = World::create();
         let answered = w.v.plain(answered);
         let token = w.v.sealed(&[w.b, w.kab, answered, w.nb], w.kas);
         let ticket = w.v.sealed(&[w.a, w.kab], w.kbs);
@@ -82,7 +55,7 @@ fn bob() -> Role {
     t.compare(&n, &nb);
 
     let night = |proof_key: u16| {
-        let mut w = world();
+        let mut w = World::create();
         let proof_key = w.v.key(proof_key);
         let first = w.v.tuple(&[w.a, w.na]);
         let ticket = w.v.sealed(&[w.a, w.kab], w.kbs);
@@ -109,7 +82,7 @@ fn server() -> Role {
     t.send(&net, &tuple(&[&token, &sealed(&[&a, &kab], &kbs)]));
 
     let night = |key: fn(&World) -> Value| {
-        let mut w = world();
+        let mut w = World::create();
         let token = w.v.sealed(&[w.a, w.na, w.nb], w.kbs);
         let second = w.v.tuple(&[w.b, token]);
         let key = key(&w);

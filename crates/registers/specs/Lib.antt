@@ -1,0 +1,2 @@
+-- What the promises of `registers` speak of.
+pub mod Held

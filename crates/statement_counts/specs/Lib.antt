@@ -1,0 +1,2 @@
+-- What the promises of `statement_counts` speak of.
+pub mod Counts
