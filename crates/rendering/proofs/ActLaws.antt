@@ -1,9 +1,35 @@
--- Two acts, or two builds, that agree under maps agree operand by operand. Assumes nothing.
-use mathlib.Core.Path.{_≡_}
-use Prim.Native.Nat.{ℕ}
+-- The operands of acts and the parts of builds under maps; and two acts, or two builds, that agree under maps agree operand by
+-- operand. Assumes nothing.
+use mathlib.Core.Path.{_≡_, refl}
+use mathlib.Core.List.{map}
+use Prim.Native.Nat.{ℕ, _<_}
 use native.Mathlib.Omega.{arith}
 use Rattle.calculus.specs.Signature.{Signature, Two}
-use Rattle.calculus.specs.Terms.{Build, build1, build2, mapBuild, Act, send, receive, fresh, compare, split, decrypt, mapAct}
+use Rattle.calculus.specs.Terms.{Build, build1, build2, mapBuild, Act, send, receive, fresh, compare, split, decrypt, mapAct, operands}
+use Rattle.calculus.specs.Tables.{kindEntry, Lower, low-one, low-two}
+use Rattle.calculus.specs.Scope.{All, all-nil, all-cons}
+use Rattle.rendering.specs.Translation.{parts}
+
+module _ (𝓢 : Signature) where
+  pub parts-map : {X Y : Type 0} (f : X → Y) (b : Build 𝓢 X) → parts 𝓢 (mapBuild 𝓢 f b) ≡ map f (parts 𝓢 b)
+  unfolding parts mapBuild
+  parts-map f (build1 k a) = refl
+  parts-map f (build2 k a b) = refl
+
+  pub operands-map : {X Y : Type 0} (f : X → Y) (a : Act 𝓢 X) → operands 𝓢 (mapAct 𝓢 f a) ≡ map f (operands 𝓢 a)
+  unfolding operands mapAct
+  operands-map f (send a b) = refl
+  operands-map f (receive a x) = refl
+  operands-map f (fresh x) = refl
+  operands-map f (compare a b) = refl
+  operands-map f (split a x y) = refl
+  operands-map f (decrypt s a b x) = refl
+
+  -- the parts of a build in a table are lower
+  pub part-lower : {j : ℕ} {b : Build 𝓢 ℕ} → Lower 𝓢 {L = ℕ} j (kindEntry b) → All (λ i. i < j) (parts 𝓢 b)
+  unfolding parts
+  part-lower (low-one p) = all-cons p all-nil
+  part-lower (low-two p q) = all-cons p (all-cons q all-nil)
 
 module _ (𝓢 : Signature) {A B : Type 0} (R : A → B → Type 0) where
   -- one act over two kinds of operands, related one by one

@@ -8,14 +8,15 @@ use Prim.Native.Nat.{ℕ, zero, suc, _+_, _<_, _≤_, zero-le, suc-le-suc}
 use native.Mathlib.Omega.{arith}
 use lib.ListN.{length, getElem?, length-append}
 use Rattle.calculus.specs.Signature.{Signature, Two}
-use Rattle.calculus.specs.Terms.{leaf, one, two, Term, Build, build1, build2, mapBuild, built, Act, send, receive, fresh, compare, split, decrypt, mapAct, operands, Statement, build}
-use Rattle.calculus.specs.Tables.{Entry, leafEntry, kindEntry, entryAt, denoted, Closed, Lower, low-one, low-two}
+use Rattle.calculus.specs.Terms.{leaf, one, two, Term, Build, build1, build2, mapBuild, built, Statement, build}
+use Rattle.calculus.specs.Tables.{Entry, leafEntry, kindEntry, entryAt, denoted, Closed, Lower}
 use Rattle.calculus.specs.Scope.{In, here, there, All, all-nil, all-cons, Distinct, di-nil, di-cons}
 use Rattle.calculus.proofs.TableLaws.{denoted-leaf, lower-all}
 use Rattle.rendering.specs.Rendering.{Due, Follows, permitted}
 use Rattle.rendering.specs.Judge.{Meaning, symbol, term, sameMeant, meantBy, meant, termMeant}
 use Rattle.rendering.specs.Translation.{registerOf, isBuilt, parts, Made, buildEach, buildEntry, buildTerm, registers}
 use Rattle.rendering.proofs.MeaningLaws.{map-build, build-same, Proper, proper-term, meant-term, entry-built}
+use Rattle.rendering.proofs.ActLaws.{parts-map, part-lower}
 use Rattle.rendering.proofs.Base.{map-append, get-map, all-append, all-map, all-in, all-unmap, in-append-left, in-append-right, in-append}
 
 -- ── Registers ──
@@ -114,25 +115,6 @@ module _ (𝓢 : Signature) where
   unfolding built parts
   only-parts (build1 k M) (only-one o) = all-cons o all-nil
   only-parts (build2 k M N) (only-two o p) = all-cons o (all-cons p all-nil)
-
-  parts-map : {X Y : Type 0} (f : X → Y) (b : Build 𝓢 X) → parts 𝓢 (mapBuild 𝓢 f b) ≡ map f (parts 𝓢 b)
-  unfolding parts mapBuild
-  parts-map f (build1 k a) = refl
-  parts-map f (build2 k a b) = refl
-
-  pub operands-map : {X Y : Type 0} (f : X → Y) (a : Act 𝓢 X) → operands 𝓢 (mapAct 𝓢 f a) ≡ map f (operands 𝓢 a)
-  unfolding operands mapAct
-  operands-map f (send a b) = refl
-  operands-map f (receive a x) = refl
-  operands-map f (fresh x) = refl
-  operands-map f (compare a b) = refl
-  operands-map f (split a x y) = refl
-  operands-map f (decrypt s a b x) = refl
-
-  part-lower : {j : ℕ} {b : Build 𝓢 ℕ} → Lower 𝓢 {L = ℕ} j (kindEntry b) → All (λ i. i < j) (parts 𝓢 b)
-  unfolding parts
-  part-lower (low-one p) = all-cons p all-nil
-  part-lower (low-two p q) = all-cons p (all-cons q all-nil)
 
   module _ (es : List (Entry 𝓢 ℕ)) (low : Closed 𝓢 0 es) where
     abbrev pub T : Meaning → Term 𝓢
@@ -284,7 +266,7 @@ module _ (𝓢 : Signature) where
         symbol-only (only-symbol k) = k
     good-entry K f i l ns o c h (kindEntry b) q n lo =
         let os : All (Only K) (parts 𝓢 (mapBuild 𝓢 D b)) = only-parts (mapBuild 𝓢 D b) (rw (entry-built 𝓢 es low i b q) at o) in
-        let g = good-each i f K (λ j ks p u d. let r = h j ks p u d in (weaker p (r .0), r .1)) (parts 𝓢 b) ns (part-lower lo) (all-unmap D (parts 𝓢 b) (rw (parts-map D b) at os)) c in
+        let g = good-each i f K (λ j ks p u d. let r = h j ks p u d in (weaker p (r .0), r .1)) (parts 𝓢 b) ns (part-lower 𝓢 lo) (all-unmap D (parts 𝓢 b) (rw (parts-map 𝓢 D b) at os)) c in
         (good-build i b (buildEach 𝓢 f (parts 𝓢 b) ns) l q (g .0) (λ j. false≢true (sym n ∙ in-built j)) (g .1), in-append-right (buildEach 𝓢 f (parts 𝓢 b) ns .1) here)
 
     good-unless : (i : ℕ) (ns : List Meaning) (r : Made 𝓢) (t : Bool) → isBuilt ns (meant 𝓢 es i) ≡ t → (isBuilt ns (meant 𝓢 es i) ≡ false → Built (suc i) ns i r) → Built (suc i) ns i (cond t ([], ns) r)

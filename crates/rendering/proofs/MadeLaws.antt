@@ -7,13 +7,13 @@ use Prim.Native.Nat.{ℕ, zero, suc, _+_, _<_, _≤_}
 use native.Mathlib.Omega.{arith}
 use lib.ListN.{length, getElem?}
 use Rattle.calculus.specs.Signature.{Signature}
-use Rattle.calculus.specs.Terms.{leaf, Term, Build, build1, build2, mapBuild, built, Act, send, receive, fresh, compare, split, decrypt, mapAct, operands, Statement}
-use Rattle.calculus.specs.Tables.{Entry, kindEntry, entryAt, denoted, Closed, Lower, low-one, low-two, Table, free}
+use Rattle.calculus.specs.Terms.{leaf, Term, Build, mapBuild, built, Act, send, receive, fresh, compare, split, decrypt, mapAct, operands, Statement}
+use Rattle.calculus.specs.Tables.{Entry, kindEntry, entryAt, denoted, Closed, Table, free}
 use Rattle.calculus.specs.Scope.{In, here, there, All, all-nil, all-cons}
 use Rattle.calculus.specs.Typing.{Checked}
 use Rattle.rendering.specs.Rendering.{Splitting, halves, merged, Due, whole, part, binds, duesOf, dues, Says, says-act, says-half, Follows, no-more, permitted, next-due, Beginning}
 use Rattle.rendering.specs.Translation.{parts, Used, by-step, by-term, NoneIdle, EveryTermIsMade}
-use Rattle.rendering.proofs.ActLaws.{ActZip, zip-send, zip-receive, zip-fresh, zip-compare, zip-split, zip-decrypt, BuildZip, zip-one, zip-two, zip-acts, zip-builds}
+use Rattle.rendering.proofs.ActLaws.{ActZip, zip-send, zip-receive, zip-fresh, zip-compare, zip-split, zip-decrypt, BuildZip, zip-one, zip-two, zip-acts, zip-builds, parts-map, operands-map, part-lower}
 use Rattle.rendering.proofs.MeaningLaws.{entry-built, no-leaf-built, built-once}
 use Rattle.rendering.proofs.Base.{all-in, in-append-left, in-append-right, in-append, in-map, named-in}
 
@@ -117,28 +117,6 @@ module _ (𝓢 : Signature) (es : List (Entry 𝓢 ℕ)) (low : Closed 𝓢 0 es
   due-of v n {s = s} (here {l = P}) = step-due v n s (dues 𝓢 v (suc n) P)
   due-of v n (there {y = y} {l = P} i) = let r = due-of v (suc n) i in record { due = r .due; isDue = in-append-right (map (λ w. (n, w)) (duesOf 𝓢 v y)) (r .isDue); names = r .names }
 
-  operands-map : {X Y : Type 0} (f : X → Y) (a : Act 𝓢 X) → operands 𝓢 (mapAct 𝓢 f a) ≡ map f (operands 𝓢 a)
-  unfolding operands mapAct
-  operands-map f (send a b) = refl
-  operands-map f (receive a x) = refl
-  operands-map f (fresh x) = refl
-  operands-map f (compare a b) = refl
-  operands-map f (split a x y) = refl
-  operands-map f (decrypt s a b x) = refl
-
-  parts-map : {X Y : Type 0} (f : X → Y) (b : Build 𝓢 X) → parts 𝓢 (mapBuild 𝓢 f b) ≡ map f (parts 𝓢 b)
-  unfolding parts mapBuild
-  parts-map f (build1 k a) = refl
-  parts-map f (build2 k a b) = refl
-
-  part-lower : {j i : ℕ} {b : Build 𝓢 ℕ} → Lower 𝓢 {L = ℕ} j (kindEntry b) → In i (parts 𝓢 b) → i < j
-  unfolding parts
-  part-lower (low-one p) here = p
-  part-lower (low-one p) (there i) = elim i [ ]
-  part-lower (low-two p q) here = p
-  part-lower (low-two p q) (there here) = q
-  part-lower (low-two p q) (there (there i)) = elim i [ ]
-
 module _ (𝓢 : Signature) (v : Splitting) (t : Table 𝓢) (ss : List (Statement 𝓢)) (ns : List (Term 𝓢)) (c : Checked 𝓢 t) (f : Beginning 𝓢 v t ss ns []) where
   abbrev es : List (Entry 𝓢 ℕ)
   es = t .entries
@@ -152,16 +130,16 @@ module _ (𝓢 : Signature) (v : Splitting) (t : Table 𝓢) (ss : List (Stateme
   from-step : (i : ℕ) (s : Act 𝓢 ℕ) → In s (t .steps) → In i (operands 𝓢 s) → In (D i) ns
   from-step i s p q =
       let r = due-of 𝓢 es (c .closed) v 0 (in-map (mapAct 𝓢 D) p) in
-      due-made 𝓢 es (c .closed) f refl (r .due) (r .isDue) (D i) (r .names (D i) (rw (operands-map 𝓢 es (c .closed) D s) (in-map D q)))
+      due-made 𝓢 es (c .closed) f refl (r .due) (r .isDue) (D i) (r .names (D i) (rw (operands-map 𝓢 D s) (in-map D q)))
 
   from-term : (i j : ℕ) (b : Build 𝓢 ℕ) → entryAt 𝓢 0 es j ≡ kindEntry b → In i (parts 𝓢 b) → In (D j) ns → In (D i) ns
   from-term i j b e p h =
       let B : Build 𝓢 (Term 𝓢) = mapBuild 𝓢 D b in
       let k : In (built 𝓢 B) ns = rw (entry-built 𝓢 es (c .closed) j b e) at h in
-      all-in (has-parts B k) (D i) (rw (parts-map 𝓢 es (c .closed) D b) (in-map D p))
+      all-in (has-parts B k) (D i) (rw (parts-map 𝓢 D b) (in-map D p))
 
   higher : {i j : ℕ} {b : Build 𝓢 ℕ} → j < length es → entryAt 𝓢 0 es j ≡ kindEntry b → In i (parts 𝓢 b) → i < j
-  higher {j = j} h e p = part-lower 𝓢 es (c .closed) (rw e at (c .closed j h)) p
+  higher {j = j} h e p = all-in (part-lower 𝓢 (rw e at (c .closed j h))) _ p
 
   made-from : (n i : ℕ) → NoneIdle 𝓢 t → i < length es → length es ≤ i + n → In (D i) ns
   made-from zero i used h l = absurd (omega arith)

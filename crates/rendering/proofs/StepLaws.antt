@@ -17,7 +17,8 @@ use Rattle.rendering.specs.Translation.{Made, buildEach, buildTerm, stat
 use Rattle.rendering.proofs.MeaningLaws.{map-act, act-same, binders-map, Proper, proper-symbol, meant-term}
 use Rattle.rendering.proofs.FreeLaws.{bound-map}
 use Rattle.rendering.proofs.Base.{get-map, get-more, all-append, all-of, all-in, all-unmap, in-append-left, in-append-right, in-append, in-map}
-use Rattle.rendering.proofs.BuildLaws.{register-in, register-below, termsOf, terms-append, symbols-none, Only, operands-map, Named, named-more, Good, good-keep, regs, good-operands, only-symbol, only-one, only-two}
+use Rattle.rendering.proofs.ActLaws.{operands-map}
+use Rattle.rendering.proofs.BuildLaws.{register-in, register-below, termsOf, terms-append, symbols-none, Only, Named, named-more, Good, good-keep, regs, good-operands, only-symbol, only-one, only-two}
 
 module _ (𝓢 : Signature) (es : List (Entry 𝓢 ℕ)) (low : Closed 𝓢 0 es) where
   abbrev pub T : Meaning → Term 𝓢

@@ -1,8 +1,6 @@
 -- `type_match::type_body` meets its contract. Assumes nothing.
-use Rattle.type_match.proofs.MatchLaws.{body-there, body-past}
 use mathlib.Core.Path.{refl}
 use native.Mathlib.Omega.{arith}
-use Prim.Native.Nat.{_-_}
 use Rattle.type_match.proofs.MatchLaws.{body-there, body-past}
 use borrow.Author.Needs.{needs}
 use Rattle.type_match.proofs.type_body.Statement.{statement}
