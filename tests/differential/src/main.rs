@@ -1,4 +1,5 @@
-//! The differential test: the proved static library and the second implementation answer the same generated cases.
+//! The differential test: the proved static library and the second implementation answer the same generated cases. First of all
+//! the static library answers document 01's marked examples.
 //!
 //! `differential [--cases N | --in-all N] [--seed X] [--only SERVICE] [--from I]`: N cases of each service, or N in all. With
 //! `--from` they start at case I, to see a case again, and nothing is owed. The last line is `N passed, M failed`: N cases compared
@@ -14,6 +15,7 @@ mod compile;
 mod inputs;
 mod judge;
 mod lent;
+mod marked;
 mod report;
 mod room;
 mod run;
@@ -47,6 +49,11 @@ fn main() -> ExitCode {
         return ExitCode::from(2);
     };
     let mut report = Report::default();
+    if asked.from.is_none() {
+        for (name, right) in marked::examples() {
+            report.example(name, right);
+        }
+    }
     for service in &asked.services {
         // Each service has its own cases, the same ones whatever other services are asked.
         let seed = service

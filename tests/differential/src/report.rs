@@ -14,6 +14,16 @@ pub struct Report {
 }
 
 impl Report {
+    /// A marked example: its answer is the document's, or not.
+    pub fn example(&mut self, name: &str, right: bool) {
+        if right {
+            self.equal += 1;
+        } else {
+            self.different += 1;
+            println!("{name}: not the document's answer");
+        }
+    }
+
     pub fn add(&mut self, service: &Service, case: Case, seed: u64, index: u64) {
         for (title, label) in case.counted {
             let labels = self.counts.entry((service.name, title)).or_default();
@@ -36,7 +46,10 @@ impl Report {
     /// that is owed was hit.
     pub fn close(&self, services: &[&Service], seed: u64, owing: bool) -> bool {
         let mut missed = 0;
-        println!("seed {seed}, {} cases", self.equal + self.different);
+        println!(
+            "seed {seed}, {} cases with the marked examples",
+            self.equal + self.different
+        );
         for service in services {
             for (title, labels) in &(service.owed)() {
                 let none = BTreeMap::new();
