@@ -79,9 +79,12 @@ fn and(a: bool, b: bool) -> bool
 fn fits(s: &[u8], i: u8, kind: u8, p: u8, q: u8) -> bool
     ensures { λ r. ⌜ r ≡ fitsAt (now (s .entry)) kind p q i ⌝ }
 {
-    let left = meant(s, table_layout::term_field(s, i, 0)) == p;
-    let right = meant(s, table_layout::term_field(s, i, 1)) == q;
-    and(table_layout::term_code(s, i) == kind, and(left, right))
+    if table_layout::term_code(s, i) == kind {
+        if meant(s, table_layout::term_field(s, i, 0)) == p {
+            return meant(s, table_layout::term_field(s, i, 1)) == q;
+        }
+    }
+    false
 }
 
 // The first such term.

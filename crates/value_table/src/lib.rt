@@ -75,10 +75,15 @@ pub fn copy_values(values: &mut [u8], trace: &[u8])
     }
 }
 
-// Value i has this tag and these numbers.
+// Value i has this tag and these numbers. One of another tag is passed over at once: a search comes to many such.
 fn is_same(values: &[u8], count: u16, i: u16, tag: u8, a: u16, b: u16) -> bool
     ensures { λ r. ⌜ r ≡ sameAt (now (values .entry)) count tag a b i ⌝ }
 {
+    if 0 < tag {
+        if entries::code_at(values, codes::VALUE, 0, i) != tag {
+            return false;
+        }
+    }
     if tag_at(values, count, i) == tag {
         if part_at(values, count, i, 0) == a {
             return part_at(values, count, i, 1) == b;

@@ -12,10 +12,10 @@ mod check_table;
 mod check_trace;
 mod compare;
 mod compile;
+mod exported;
 mod inputs;
 mod judge;
 mod lent;
-mod marked;
 mod report;
 mod room;
 mod run;
@@ -50,8 +50,8 @@ fn main() -> ExitCode {
     };
     let mut report = Report::default();
     if asked.from.is_none() {
-        for (name, right) in marked::examples() {
-            report.example(name, right);
+        for (example, right) in marked::tried(&exported::EXPORTED) {
+            report.example(example, right);
         }
     }
     for service in &asked.services {

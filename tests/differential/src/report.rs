@@ -15,12 +15,12 @@ pub struct Report {
 
 impl Report {
     /// A marked example: its answer is the document's, or not.
-    pub fn example(&mut self, name: &str, right: bool) {
+    pub fn example(&mut self, example: &str, right: bool) {
         if right {
             self.equal += 1;
         } else {
             self.different += 1;
-            println!("{name}: not the document's answer");
+            println!("{example}: not the document's answer");
         }
     }
 

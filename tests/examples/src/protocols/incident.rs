@@ -35,10 +35,17 @@ fn asking() -> Role {
         let answer = v.sealed(&inside, start[1]);
         v.finish(&start, &[n, answer])
     };
+    // A supply that gives the network's channel where a new name is due.
+    let used_name = || {
+        let mut v = TraceWriter::default();
+        let start = [v.channel(0), v.key(0), v.channel(1)];
+        v.finish(&start, &start[..1])
+    };
     Role::new("asking", t)
         .other_list("firm", 12, without_comparison)
         .night("good", 0, night(2, 2, 102))
         .night("replayed", 2, night(2, 1, 101))
+        .night("used-name", 6, used_name())
 }
 
 /// The role's list as entries, the number of free symbols, and the place of the first such statement.

@@ -19,17 +19,6 @@ pub fn compile(table: &[u8]) -> Result<Vec<u8>, (u64, u64, u64)> {
     Ok(out)
 }
 
-/// The type of each symbol, as bytes.
-pub fn types(table: &[u8]) -> Result<Vec<Vec<u8>>, (u64, u64, u64)> {
-    let list = compile(table)?;
-    let of = |symbol| {
-        let answer = service::type_of(&list, symbol);
-        let (start, length) = (answer[3] as usize, answer[4] as usize);
-        list[start..start + length].to_vec()
-    };
-    Ok((0..usize::from(table[5])).map(of).collect())
-}
-
 /// The number, file and place, as an error where they refuse.
 pub fn fine(answer: Answer) -> Result<(), (u64, u64, u64)> {
     if answer[0] == 0 {
