@@ -6,7 +6,7 @@ use Prim.Native.Nat.{ℕ, _+_, _≤_, _<_}
 use native.Mathlib.Omega.{arith}
 use Rattle.base.specs.Search.{Search, clean, wrong, first}
 use Rattle.base.proofs.Searched.{first-wrong, first-right, first-end}
-use Rattle.answers.specs.Ladder.{Rung, whole, answered, least, andThen}
+use Rattle.answers.specs.Ladder.{refusal, Rung, whole, answered, least, andThen}
 use Rattle.answers.specs.declared.Refusal.{Refusal}
 use Rattle.answers.specs.declared.Check.the-variants.{Pass, Refuse}
 
@@ -38,14 +38,14 @@ whole-right n f b rs e =
     let q : first (λ i. b) 0 1 ≡ clean = first-right (λ i. b) 0 1 (omega arith) e ∙ first-end (λ i. b) 1 1 (omega arith) in
     ap (λ s. answered (whole n f b) s (least rs)) q ∙ (unfold answered in refl)
 
-pub whole-wrong : (n f : ℕ) (b : Bool) (rs : List Rung) → b ≡ false → least (whole n f b ∷ rs) ≡ Refuse (record { number = n; file = f; place = 0 })
+pub whole-wrong : (n f : ℕ) (b : Bool) (rs : List Rung) → b ≡ false → least (whole n f b ∷ rs) ≡ Refuse (refusal n f 0)
 unfolding least
 whole-wrong n f b rs e =
     ap (λ s. answered (whole n f b) s (least rs)) (first-wrong (λ i. b) 0 1 (omega arith) e) ∙ (unfold answered in refl)
 
 -- a loop over a rung's things, by what it has found
 pub rung-found : (r : Rung) (i : ℕ) (x : Refusal) → first (r .ok) 0 (r .count) ≡ first (r .ok) i (r .count) → i < r .count → r .ok i ≡ false
-    → x ≡ record { number = r .number; file = r .file; place = r .place i } → Refuse x ≡ least (r ∷ [])
+    → x ≡ refusal (r .number) (r .file) (r .place i) → Refuse x ≡ least (r ∷ [])
 unfolding least
 rung-found r i x q h e n =
     ap Refuse n ∙ sym (ap (λ s. answered r s Pass) (q ∙ first-wrong (r .ok) i (r .count) h e) ∙ (unfold answered in refl))

@@ -9,7 +9,7 @@ use native.Mathlib.Decide.{decLt}
 use native.Mathlib.Omega.{arith}
 use Rattle.base.specs.Search.{Search, clean, wrong, first}
 use Rattle.base.proofs.Searched.{Found, all-right, first-bad, found}
-use Rattle.answers.specs.Ladder.{Rung, answered, least}
+use Rattle.answers.specs.Ladder.{refusal, Rung, answered, least}
 use Rattle.answers.specs.Least.{At, Fault, here, later, Before, Least, none, lowest, Ordered, no-rung, rung}
 use Rattle.answers.specs.declared.Refusal.{Refusal}
 use Rattle.answers.specs.declared.Check.{Check}
@@ -53,7 +53,7 @@ least-fault (r ∷ rs) (rung up before o) = go (first (r .ok) 0 (r .count)) (fou
     go (wrong i) f l = unfold answered in lowest (here own) λ y g. under y g
       where
         it : Refusal
-        it = record { number = r .number; file = r .file; place = r .place i }
+        it = refusal (r .number) (r .file) (r .place i)
 
         own : At r it
         own = let q = at-first r f in record { thing = i; among = q .0; broken = q .1; named = refl }
@@ -76,4 +76,4 @@ least-one rs (lowest {x = x} f m) (lowest {x = y} g n) = ap Refuse (same (m y g)
     same (inr (a, b, c)) (inr (d, e, g)) = let p : x .place ≡ y .place = omega arith in eta a b p
       where
         eta : x .number ≡ y .number → x .file ≡ y .file → x .place ≡ y .place → x ≡ y
-        eta a b p = let q : _≡_ {A = Refusal} (record { number = x .number; file = x .file; place = x .place }) y = rw (a, b, p) in q
+        eta a b p = let q : _≡_ {A = Refusal} (refusal (x .number) (x .file) (x .place)) y = rw (a, b, p) in q

@@ -6,7 +6,7 @@ use Prim.Native.Nat.{ℕ, _<_}
 use native.Mathlib.Omega.{arith}
 use Rattle.base.specs.Search.{Search, clean, wrong, first}
 use Rattle.base.proofs.Searched.{Found, all-right, first-bad, found}
-use Rattle.answers.specs.Ladder.{Rung, whole, answered, least, andThen}
+use Rattle.answers.specs.Ladder.{refusal, Rung, whole, answered, least, andThen}
 use Rattle.answers.proofs.Ladder.{least-none, least-append}
 use Rattle.answers.specs.declared.Check.{Check}
 use Rattle.answers.specs.declared.Check.the-variants.{Pass, Refuse}
@@ -21,7 +21,7 @@ rung-passed r rs e = go (first (r .ok) 0 (r .count)) (found (r .ok) 0 (r .count)
   where
     go : (s : Search) → Found (r .ok) 0 (r .count) s → answered r s (least rs) ≡ Pass → Passed r rs
     go clean (all-right f) e = passed (λ i h. f i (omega arith) h) (unfold answered in e)
-    go (wrong i) f e = let q : Refuse (record { number = r .number; file = r .file; place = r .place i }) ≡ Pass = (unfold answered in e) in let z : _≡_ {A = ℕ} 0 1 = cc in absurd (omega arith)
+    go (wrong i) f e = let q : Refuse (refusal (r .number) (r .file) (r .place i)) ≡ Pass = (unfold answered in e) in let z : _≡_ {A = ℕ} 0 1 = cc in absurd (omega arith)
 
 pub first-passed : (r : Rung) (rs : List Rung) → least (r ∷ rs) ≡ Pass → (i : ℕ) → i < r .count → r .ok i ≡ true
 first-passed r rs e = go (rung-passed r rs e)

@@ -3,8 +3,13 @@ use mathlib.Core.Bool.{Bool}
 use mathlib.Core.List.{List, [], _∷_}
 use Prim.Native.Nat.{ℕ}
 use Rattle.base.specs.Search.{Search, clean, wrong, first}
+use Rattle.answers.specs.declared.Refusal.{Refusal}
 use Rattle.answers.specs.declared.Check.{Check}
 use Rattle.answers.specs.declared.Check.the-variants.{Pass, Refuse}
+
+-- a refusal: number, file, place
+abbrev pub refusal : ℕ → ℕ → ℕ → Refusal
+refusal n f p = record { number = n; file = f; place = p }
 
 -- one kind of fault: its number and file, how many things are tested, which of them are in order, and the place of each
 pub record Rung : Type 0 where
@@ -21,7 +26,7 @@ whole n f b = record { number = n; file = f; count = 1; ok = λ i. b; place = λ
 -- the refusal of a rung at the thing that is out of order; what else is answered where none is
 unfoldable pub answered : Rung → Search → Check → Check
 answered r clean c = c
-answered r (wrong i) c = Refuse (record { number = r .number; file = r .file; place = r .place i })
+answered r (wrong i) c = Refuse (refusal (r .number) (r .file) (r .place i))
 
 -- what the rungs answer: the first thing of the first rung that is out of order
 unfoldable pub least : List Rung → Check

@@ -4,7 +4,7 @@ use mathlib.Core.Bool.{false}
 use mathlib.Core.Logic.{_⊎_}
 use mathlib.Core.List.{List, [], _∷_}
 use Prim.Native.Nat.{ℕ, _≤_, _<_}
-use Rattle.answers.specs.Ladder.{Rung}
+use Rattle.answers.specs.Ladder.{refusal, Rung}
 use Rattle.answers.specs.declared.Refusal.{Refusal}
 use Rattle.answers.specs.declared.Check.{Check}
 use Rattle.answers.specs.declared.Check.the-variants.{Pass, Refuse}
@@ -14,7 +14,7 @@ pub record At (r : Rung) (x : Refusal) : Type 0 where
   pub thing : ℕ
   pub among : thing < r .count
   pub broken : r .ok thing ≡ false
-  pub named : x ≡ record { number = r .number; file = r .file; place = r .place thing }
+  pub named : x ≡ refusal (r .number) (r .file) (r .place thing)
 
 -- the fault is one of the file's
 pub data Fault (x : Refusal) : List Rung → Type 0 where

@@ -1,5 +1,6 @@
 // The refusal: one number with its file and place. Each layer of a reader answers a `Check`, and a refusal is passed on whole.
 ghost use mathlib.Core.Path.{_≡_};
+ghost use Rattle.answers.specs.Ladder.{refusal};
 
 pub struct Refusal {
     pub number: u8,
@@ -14,7 +15,7 @@ pub enum Check {
 }
 
 pub fn refuse(number: u8, file: u8, place: usize) -> Check
-    ensures { λ r. ⌜ r ≡ Check.Refuse (record { number = number; file = file; place = place }) ⌝ }
+    ensures { λ r. ⌜ r ≡ Check.Refuse (refusal number file place) ⌝ }
 {
     Check::Refuse(Refusal {
         number,

@@ -1,7 +1,7 @@
 -- A list always fits the program's buffer, and what is written is a list or a line. Assumes nothing.
-use mathlib.Core.Path.{_≡_, ap}
-use mathlib.Core.List.{List, _++_}
-use Prim.Native.Nat.{ℕ, zero, suc, _+_, _*_, _≤_}
+use mathlib.Core.Path.{_≡_, refl}
+use mathlib.Core.List.{List}
+use Prim.Native.Nat.{ℕ, zero, suc, _*_, _≤_}
 use native.Mathlib.Omega.{arith}
 use lib.ListN.{length, take, drop, length-append}
 use lib.Seq.{take-append-seam}
@@ -18,16 +18,14 @@ use Rattle.rendering.specs.Rendering.{halves}
 use Rattle.rendering.specs.Translation.{translation}
 use Rattle.decoded.specs.Table.{tableOf}
 use Rattle.decoded.proofs.Passes.{table-passes}
-use Rattle.decoded_list.specs.Bytes.{headerBytes, typeBytes, typesBytes, statementsBytes}
-use Rattle.type_lists.specs.Lists.{typesTo}
-use Rattle.translate.proofs.Writing.{bytes-length}
+use Rattle.decoded_list.specs.Bytes.{typeBytes, typesBytes, typesTo}
 use Rattle.type_service.specs.Services.{IsWidest, Answered, table-refused, too-short, written}
 use Rattle.compile_service.specs.Files.{listFile}
-use Rattle.compile_service.proofs.FileLaws.{file-parts, few-statements, header-length}
+use Rattle.compile_service.proofs.FileLaws.{few-statements, need-is}
 use Rattle.compile_service.proofs.ReadBack.{widest-short}
 use Rattle.lines.specs.Lines.{LinePut}
 use Rattle.lines.proofs.LineLaws.{counted}
-use Rattle.compile.specs.Printed.{a-list, a-line, Printed}
+use Rattle.compile.specs.Printed.{a-list, a-line, ListPrinted}
 
 -- types of at most 129 bytes, with their length bytes
 types-short : (Γ : Env signature1) (i n : ℕ) → ((x : ℕ) → length (bytes (Γ x)) ≤ 129) → length (typesBytes (listed Γ i n)) ≤ 130 * n
@@ -38,21 +36,9 @@ types-short Γ i (suc n) h = omega (arith, h i, types-short Γ (suc i) n h, leng
 pub list-short : (s : List ℕ) (Γ : Env signature1) → IsWidest s Γ → length (listFile s Γ) ≤ 13512
 list-short s Γ t =
     let f = table-passes s .0 (t .sound) .frame in
-    let N = length (translation signature1 halves (tableOf s)) in
-    let header = headerBytes (symbols s) N in
     let types = typesBytes (typesTo Γ (symbols s)) in
-    let statements = statementsBytes (translation signature1 halves (tableOf s)) in
-    omega (
-      arith,
-      ap (λ (l : List ℕ). length l) (file-parts s Γ t),
-      length-append header (types ++ statements),
-      length-append types statements,
-      header-length (symbols s) N,
-      bytes-length (translation signature1 halves (tableOf s)),
-      few-statements s Γ t,
-      types-short Γ 0 (symbols s) (widest-short s Γ t),
-      f .few-symbols,
-    )
+    let statements = translation signature1 halves (tableOf s) in
+    omega (arith, need-is s Γ (length types) (length statements) refl refl, few-statements s Γ t, types-short Γ 0 (symbols s) (widest-short s Γ t), f .few-symbols)
 
 -- what was written over a buffer stands at its start
 taken : (w z : List ℕ) → take (length w) (over w z) ≡ w
@@ -64,7 +50,7 @@ unfolding over
 over-longer w z = omega (arith, length-append w (drop (length w) z))
 
 -- a list
-pub list-printed : (s z o : List ℕ) (a : Check) (n : ℕ) → Answered (listFile s) s z o a n → a ≡ Pass → Printed s z o n
+pub list-printed : (s z o : List ℕ) (a : Check) (n : ℕ) → Answered (listFile s) s z o a n → a ≡ Pass → ListPrinted s z o n
 list-printed s z o a n (table-refused r) e = let y : _≡_ {A = ℕ} 0 1 = cc in absurd (omega arith)
 list-printed s z o a n (too-short t l) e = let y : _≡_ {A = ℕ} 0 1 = cc in absurd (omega arith)
 list-printed s z o a n (written {Γ = Γ} t l) e = record {
@@ -74,7 +60,7 @@ list-printed s z o a n (written {Γ = Γ} t l) e = record {
 }
 
 -- a line
-pub line-printed : (s z o : List ℕ) (a : Check) (n : ℕ) (x : Refusal) (p : List ℕ) (r : ℕ) → Answered (listFile s) s z o a n → a ≡ Refuse x → LinePut x o p r → Printed s z p r
+pub line-printed : (s z o : List ℕ) (a : Check) (n : ℕ) (x : Refusal) (p : List ℕ) (r : ℕ) → Answered (listFile s) s z o a n → a ≡ Refuse x → LinePut x o p r → ListPrinted s z p r
 line-printed s z o a n x p r (table-refused {x = y} q) e l = record {
   inside = l .inside;
   counted = l .counted;

@@ -16,7 +16,7 @@ pub data Text (s : List ℕ) (text : List ℕ) : Type 0 where
   a-line : {x : Refusal} → TableRefused s x → LineOf x text → Text s text
 
 -- it stands at the start of a buffer that is long enough, and r is its length
-pub record Printed (s z o : List ℕ) (r : ℕ) : Type 0 where
+pub record ListPrinted (s z o : List ℕ) (r : ℕ) : Type 0 where
   pub inside : r ≤ length o
   pub counted : r ≡ length (take r o)
   pub text : 16384 ≤ length z → Text s (take r o)

@@ -2,11 +2,11 @@
 use answers::Check;
 use libc::STDIN_FILENO;
 use libc::STDOUT_FILENO;
-ghost use Rattle.compile.specs.Printed.{Printed};
+ghost use Rattle.compile.specs.Printed.{ListPrinted};
 
 // What is written for a table, at the start of a buffer of 16,384 bytes, and its length.
 fn print(table: &[u8], out: &mut [u8]) -> usize
-    ensures { λ r. ⌜ Printed (now (table .entry)) (now (out .entry)) (now (out .exit)) r ⌝ }
+    ensures { λ r. ⌜ ListPrinted (now (table .entry)) (now (out .entry)) (now (out .exit)) r ⌝ }
 {
     let w = compile_service::compile(table, out);
     let check = w.check;

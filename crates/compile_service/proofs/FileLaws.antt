@@ -16,20 +16,19 @@ use Rattle.calculus.specs.Version1.{signature1}
 use Rattle.rendering.specs.Rendering.{halves}
 use Rattle.rendering.specs.Translation.{translation}
 use Rattle.decoded.specs.Table.{tableOf}
-use Rattle.decoded_list.specs.Bytes.{headerBytes, typesBytes, statementsBytes, listBytes}
+use Rattle.decoded_list.specs.Bytes.{headerBytes, typesBytes, statementsBytes, listBytes, typesTo}
 use Rattle.entries.proofs.Tiling.{listed-length}
-use Rattle.type_lists.specs.Lists.{typesTo}
 use Rattle.translate.specs.Stepwise.{wroteIf}
 use Rattle.statement_counts.proofs.Ranged.{all-fits}
 use Rattle.translate.proofs.Writing.{bytes-length}
 use Rattle.type_service.specs.Services.{IsWidest}
 use Rattle.compile_service.specs.Files.{listFile}
 
-pub header-length : (symbols statements : ℕ) → length (headerBytes symbols statements) ≡ 8
+header-length : (symbols statements : ℕ) → length (headerBytes symbols statements) ≡ 8
 unfolding headerBytes
 header-length symbols statements = refl
 
-module _ (s : List ℕ) (Γ : Env signature1) (t : IsWidest s Γ) where
+module _ (s : List ℕ) (Γ : Env signature1) where
   -- the three parts
   abbrev N : ℕ
   N = length (translation signature1 halves (tableOf s))
@@ -43,60 +42,70 @@ module _ (s : List ℕ) (Γ : Env signature1) (t : IsWidest s Γ) where
   abbrev statements : List ℕ
   statements = statementsBytes (translation signature1 halves (tableOf s))
 
-  pub file-parts : listFile s Γ ≡ header ++ (types ++ statements)
+  file-parts : listFile s Γ ≡ header ++ (types ++ statements)
   unfolding listBytes
   file-parts = rw (listed-length Γ 0 (symbols s)) refl
 
   -- N is small
-  pub few-statements : N ≤ 256
-  few-statements = all-fits s (t .sound) .0
+  pub few-statements : IsWidest s Γ → N ≤ 256
+  few-statements t = all-fits s (t .sound) .0
 
-  module _ (size at need n : ℕ) (z : List ℕ) (hs : size ≡ length types) (hn : n ≡ N) (ha : at ≡ 8 + size) (hm : need ≡ at + 4 * n) where
-    pub need-is : need ≡ length (listFile s Γ)
-    need-is = omega (arith, ap (λ (l : List ℕ). length l) file-parts, length-append header (types ++ statements), length-append types statements, header-length (symbols s) N, bytes-length (translation signature1 halves (tableOf s)))
+  -- the bytes needed, by the bytes of the types and the number of statements
+  pub need-is : (size n : ℕ) → size ≡ length types → n ≡ N → 8 + size + 4 * n ≡ length (listFile s Γ)
+  need-is size n hs hn = omega (arith, ap (λ (l : List ℕ). length l) file-parts, length-append header (types ++ statements), length-append types statements, header-length (symbols s) N, bytes-length (translation signature1 halves (tableOf s)))
 
-    module _ (room : length (listFile s Γ) ≤ length z) where
-      pub room-header : 8 ≤ length z
-      room-header = omega (arith, need-is)
+-- the types have size bytes, there are n statements, and the buffer z has room for the list
+pub record Fits (s : List ℕ) (Γ : Env signature1) (size n : ℕ) (z : List ℕ) : Type 0 where
+  pub widest : IsWidest s Γ
+  pub sized : size ≡ length (types s Γ)
+  pub counted : n ≡ N s Γ
+  pub room : length (listFile s Γ) ≤ length z
 
-      module _ (o₁ : List ℕ) (h₁ : o₁ ≡ over (headerBytes (symbols s) n) z) where
-        written-header : o₁ ≡ over header z
-        written-header = h₁ ∙ rw hn refl
+module _ {s : List ℕ} {Γ : Env signature1} {size n : ℕ} {z : List ℕ} (k : Fits s Γ size n z) where
+  room-is : 8 + size + 4 * n ≤ length z
+  room-is = rw (need-is s Γ size n (k .sized) (k .counted)) (k .room)
 
-        pub length-header : length o₁ ≡ length z
-        length-header = ap (λ (l : List ℕ). length l) written-header ∙ over-length header z (omega (arith, header-length (symbols s) N, room-header))
+  pub room-header : 8 ≤ length z
+  room-header = omega (arith, room-is)
 
-        abbrev part₁ : List ℕ
-        part₁ = take (length o₁ - 8) (drop 8 o₁)
+  module _ (o₁ : List ℕ) (h₁ : o₁ ≡ over (headerBytes (symbols s) n) z) where
+    written-header : o₁ ≡ over (header s Γ) z
+    written-header = h₁ ∙ rw (k .counted) refl
 
-        part₁-length : length part₁ ≡ length z - 8
-        part₁-length = rw part-from (simp (length-drop) (omega (arith, length-header)))
+    pub length-header : length o₁ ≡ length z
+    length-header = ap (λ (l : List ℕ). length l) written-header ∙ over-length (header s Γ) z (omega (arith, header-length (symbols s) (N s Γ), room-header))
 
-        pub types-fit : length types ≤ length part₁
-        types-fit = omega (arith, part₁-length, need-is)
+    abbrev part₁ : List ℕ
+    part₁ = take (length o₁ - 8) (drop 8 o₁)
 
-        module _ (y₁ : List ℕ) (k₁ : length y₁ ≡ length part₁) (w₁ : y₁ ≡ over types part₁) where
-          abbrev o₂ : List ℕ
-          o₂ = putMid 8 (length o₁ - 8) o₁ y₁
+    part₁-length : length part₁ ≡ length z - 8
+    part₁-length = rw part-from (simp (length-drop) (omega (arith, length-header)))
 
-          written-types : o₂ ≡ over (header ++ types) z
-          written-types = over-lent header types z o₁ y₁ 8 (sym (header-length (symbols s) N)) written-header w₁
+    pub types-fit : length (types s Γ) ≤ length part₁
+    types-fit = omega (arith, part₁-length, room-is, k .sized)
 
-          pub length-types : length o₂ ≡ length z
-          length-types = lent-length 8 o₁ y₁ k₁ ∙ length-header
+    module _ (y₁ : List ℕ) (k₁ : length y₁ ≡ length part₁) (w₁ : y₁ ≡ over (types s Γ) part₁) where
+      abbrev o₂ : List ℕ
+      o₂ = putMid 8 (length o₁ - 8) o₁ y₁
 
-          abbrev part₂ : List ℕ
-          part₂ = take (length o₂ - at) (drop at o₂)
+      written-types : o₂ ≡ over (header s Γ ++ types s Γ) z
+      written-types = over-lent (header s Γ) (types s Γ) z o₁ y₁ 8 (sym (header-length (symbols s) (N s Γ))) written-header w₁
 
-          part₂-length : length part₂ ≡ length z - at
-          part₂-length = rw part-from (simp (length-drop) (omega (arith, length-types)))
+      pub length-types : length o₂ ≡ length z
+      length-types = lent-length 8 o₁ y₁ k₁ ∙ length-header
 
-          module _ (y₂ : List ℕ) (w₂ : y₂ ≡ wroteIf (least (tableRungs s)) statements part₂) where
-            written-statements : y₂ ≡ over statements part₂
-            written-statements = (rw (t .sound) at w₂) ∙ over-fits statements part₂ (omega (arith, part₂-length, need-is, bytes-length (translation signature1 halves (tableOf s))))
+      abbrev part₂ : List ℕ
+      part₂ = take (length o₂ - (8 + size)) (drop (8 + size) o₂)
 
-            pub written-file : putMid at (length o₂ - at) o₂ y₂ ≡ over (listFile s Γ) z
-            written-file =
-                let q : at ≡ length (header ++ types) = omega (arith, length-append header types, header-length (symbols s) N) in
-                over-lent (header ++ types) statements z o₂ y₂ at q written-types written-statements
-                ∙ ap (λ (l : List ℕ). over l z) (append-assoc header types statements ∙ sym file-parts)
+      part₂-length : length part₂ ≡ length z - (8 + size)
+      part₂-length = rw part-from (simp (length-drop) (omega (arith, length-types)))
+
+      module _ (y₂ : List ℕ) (w₂ : y₂ ≡ wroteIf (least (tableRungs s)) (statements s Γ) part₂) where
+        written-statements : y₂ ≡ over (statements s Γ) part₂
+        written-statements = (rw (k .widest .sound) at w₂) ∙ over-fits (statements s Γ) part₂ (omega (arith, part₂-length, room-is, k .counted, bytes-length (translation signature1 halves (tableOf s))))
+
+        pub written-file : putMid (8 + size) (length o₂ - (8 + size)) o₂ y₂ ≡ over (listFile s Γ) z
+        written-file =
+            let q : 8 + size ≡ length (header s Γ ++ types s Γ) = omega (arith, length-append (header s Γ) (types s Γ), header-length (symbols s) (N s Γ), k .sized) in
+            over-lent (header s Γ ++ types s Γ) (statements s Γ) z o₂ y₂ (8 + size) q written-types written-statements
+            ∙ ap (λ (l : List ℕ). over l z) (append-assoc (header s Γ) (types s Γ) (statements s Γ) ∙ sym (file-parts s Γ))

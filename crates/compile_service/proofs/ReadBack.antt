@@ -21,9 +21,9 @@ use Rattle.decoded.proofs.Checked.{table-checked}
 use Rattle.decoded.proofs.Listed.{listed-all-at}
 use Rattle.decoded.proofs.Passes.{table-passes}
 use Rattle.decoded_list.proofs.FileLayout.{file-count}
+use Rattle.decoded_list.specs.Bytes.{typesTo}
 use Rattle.compiled.specs.Compiled.{compiled}
 use Rattle.compiled.proofs.Compiled.{compiled-passes, compiled-statements, compiled-type}
-use Rattle.type_lists.specs.Lists.{typesTo}
 use Rattle.type_service.specs.Services.{IsWidest, Answered, written}
 use Rattle.compile_service.specs.Files.{listFile, ReadsBack}
 use Rattle.compile_service.proofs.FileLaws.{few-statements}

@@ -13,11 +13,10 @@ use Rattle.calculus.specs.Figure2.{Env}
 use Rattle.calculus.specs.Version1.{signature1}
 use Rattle.rendering.specs.Rendering.{halves}
 use Rattle.rendering.specs.Translation.{translation}
-use Rattle.decoded.specs.Table.{tableOf}
-use Rattle.decoded_list.specs.Bytes.{listBytes}
+use Rattle.decoded.specs.Table.{tableOf, freeCount}
+use Rattle.decoded_list.specs.Bytes.{listBytes, typesTo}
 use Rattle.decoded_list.specs.Statements.{statementsOf}
-use Rattle.compiled.specs.Compiled.{compiled, freeCount}
-use Rattle.type_lists.specs.Lists.{typesTo}
+use Rattle.compiled.specs.Compiled.{compiled}
 
 -- a table's list under types Γ: the types of its symbols, and the statements of its translation
 abbrev pub listFile : List ℕ → Env signature1 → List ℕ

@@ -7,7 +7,6 @@ use native.Mathlib.Omega.{arith}
 use lib.ListN.{length, getD, length-map}
 use Rattle.answers.specs.Ladder.{least}
 use Rattle.answers.specs.declared.Check.the-variants.{Pass}
-use Rattle.entries.specs.Words.{Bytes}
 use Rattle.entries.proofs.Tiling.{listed-length}
 use Rattle.table_layout.specs.Layout.{symbols}
 use Rattle.table.specs.Faults.{tableRungs}
@@ -23,17 +22,16 @@ use Rattle.rendering.specs.Rendering.{halves}
 use Rattle.rendering.specs.Translation.{translation}
 use Rattle.rendering.proofs.FreeLaws.{bound-map}
 use Rattle.rendering.proofs.Version1Laws.{translation-is-faithful1, translation-fits1}
-use Rattle.decoded.specs.Table.{sortAt, stepAt, tableOf}
+use Rattle.decoded.specs.Table.{sortAt, stepAt, tableOf, freeCount}
 use Rattle.decoded.proofs.Checked.{table-checked}
 use Rattle.decoded.proofs.Holding.{entries-length}
 use Rattle.decoded_list.specs.Bytes.{listBytes}
 use Rattle.decoded_list.specs.Statements.{statementsOf}
 use Rattle.decoded_list.specs.Form.{StatementsFit, InForm}
-use Rattle.decoded_list.proofs.FileBytes.{file-bytes}
 use Rattle.decoded_list.proofs.Passing.{file-passes, file-statements, file-type}
 use Rattle.decoded.proofs.Tabled.{counts-small}
 use Rattle.statement_counts.proofs.Ranged.{in-range}
-use Rattle.compiled.specs.Compiled.{compiled, freeCount}
+use Rattle.compiled.specs.Compiled.{compiled}
 use Rattle.compiled.proofs.Rendered.{Nameable, dues-fit, follows-fit}
 
 module _ (s : List ℕ) (e : least (tableRungs s) ≡ Pass) where
@@ -65,10 +63,6 @@ module _ (s : List ℕ) (e : least (tableRungs s) ≡ Pass) where
     -- its file passes 1 to 5
     pub compiled-passes : least (listRungs (listBytes (compiled s As)) (freeCount s)) ≡ Pass
     compiled-passes = file-passes (compiled s As) (freeCount s) translation-in-form
-
-    -- it has only bytes
-    pub compiled-bytes : Bytes (listBytes (compiled s As))
-    compiled-bytes = file-bytes (compiled s As) (freeCount s) translation-in-form
 
     -- and what is read of it is the translation, and the types
     pub compiled-statements : statementsOf (listBytes (compiled s As)) ≡ translation signature1 halves (tableOf s)

@@ -14,11 +14,11 @@ use Rattle.base.specs.Bytes.{byte}
 use Rattle.codes.specs.Rows.{cell, noRole, termRole as stepTermRole}
 use Rattle.table_layout.specs.Layout.{symbols, steps, stepField, stepRole}
 use Rattle.calculus.specs.Terms.{Term, Act, send, receive, fresh, compare, split, decrypt, mapAct, operands, binders, bound}
-use Rattle.calculus.specs.Tables.{Sort, is-variable, sortOf, isIn, missing, free}
+use Rattle.calculus.specs.Tables.{Sort, is-variable, sortOf, isIn, missing}
 use Rattle.calculus.specs.Scope.{In, here, there, All, all-nil, all-cons}
 use Rattle.calculus.specs.Version1.{signature1}
 use Rattle.entries.specs.Tiling.{listed}
-use Rattle.decoded.specs.Table.{sortAt, stepAt, tableOf, stepBytes}
+use Rattle.decoded.specs.Table.{sortAt, stepAt, tableOf, stepBytes, freeOf}
 use Rattle.decoded.specs.Meaning.{Uses, Binder, Binds}
 use Rattle.decoded.proofs.Tests.{clash}
 use Rattle.entries.proofs.Tiling.{listed-length}
@@ -222,7 +222,7 @@ module _ (s : List ℕ) (n : Entered s) where
   )
 
   -- the free symbols are those that no step binds
-  pub free-means : (x : ℕ) → In x (free signature1 (tableOf s)) ↔ ((x < symbols s) × ((k : ℕ) → k < steps s → ¬ Binds s k x))
+  pub free-means : (x : ℕ) → In x (freeOf s) ↔ ((x < symbols s) × ((k : ℕ) → k < steps s → ¬ Binds s k x))
   free-means x = (λ a. to (missing-at x 0 (tableOf s .sorts) (bound signature1 (tableOf s .steps)) a), λ (h, f). from h f)
     where
       to : (0 ≤ x) × (x < 0 + length (tableOf s .sorts)) × (isIn x (bound signature1 (tableOf s .steps)) ≡ false) → (x < symbols s) × ((k : ℕ) → k < steps s → ¬ Binds s k x)
@@ -230,7 +230,7 @@ module _ (s : List ℕ) (n : Entered s) where
           let z = sorts-length s in
           (omega arith, λ k h b. clash (in-is-in x (bound signature1 (tableOf s .steps)) (bound-means x .1 (k, h, b))) e)
 
-      from : x < symbols s → ((k : ℕ) → k < steps s → ¬ Binds s k x) → In x (free signature1 (tableOf s))
+      from : x < symbols s → ((k : ℕ) → k < steps s → ¬ Binds s k x) → In x (freeOf s)
       from h f =
           let z = sorts-length s in
           at-missing x 0 (tableOf s .sorts) (bound signature1 (tableOf s .steps)) (omega arith) (omega arith) (not-is-in (isIn x (bound signature1 (tableOf s .steps))) refl)

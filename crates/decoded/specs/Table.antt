@@ -7,7 +7,7 @@ use Rattle.entries.specs.Fields.{code}
 use Rattle.table_layout.specs.Layout.{symbols, terms, steps, termsAt, stepsAt, sort, termField, stepField}
 use Rattle.calculus.specs.Signature.{Two, pairing, seal}
 use Rattle.calculus.specs.Terms.{build1, build2, Act, send, receive, fresh, compare, split, decrypt}
-use Rattle.calculus.specs.Tables.{Sort, is-name, is-variable, Entry, leafEntry, kindEntry, Table}
+use Rattle.calculus.specs.Tables.{Sort, is-name, is-variable, Entry, leafEntry, kindEntry, Table, free}
 use Rattle.calculus.specs.Version1.{One1, Seal1, encryption, signature1}
 use Rattle.entries.specs.Tiling.{listed, joined}
 
@@ -53,6 +53,13 @@ tableOf s =
       entries = listed (termAt s) 0 (terms s);
       steps = listed (stepAt s) 0 (steps s);
     }
+
+-- its free symbols, which are the first registers, and their number
+abbrev pub freeOf : List ℕ → List ℕ
+freeOf s = free signature1 (tableOf s)
+
+abbrev pub freeCount : List ℕ → ℕ
+freeCount s = length (freeOf s)
 
 -- ── And back ──
 

@@ -3,10 +3,11 @@ use mathlib.Core.List.{List, [], _∷_, _++_}
 use Prim.Native.Nat.{ℕ, _/_, _%_}
 use lib.ListN.{length}
 use Rattle.codes.specs.Marks.{mark}
-use Rattle.entries.specs.Tiling.{joined}
+use Rattle.entries.specs.Tiling.{listed, joined}
 use Rattle.types.specs.Version1.{T, bytes}
 use Rattle.calculus.specs.Signature.{Two, pairing, seal}
 use Rattle.calculus.specs.Terms.{build1, build2, send, receive, fresh, compare, split, decrypt, Side, left, right, Statement, act, half, build}
+use Rattle.calculus.specs.Figure2.{Env}
 use Rattle.calculus.specs.Version1.{One1, Seal1, encryption, signature1}
 use Rattle.rendering.specs.Lists.{StatementList}
 
@@ -42,6 +43,10 @@ abbrev pub statementsBytes : List (Statement signature1) → List ℕ
 statementsBytes ss = joined statementBytes ss
 
 -- ── Types ──
+
+-- the types of symbols 0 to n, without n
+abbrev pub typesTo : Env signature1 → ℕ → List T
+typesTo Γ n = listed Γ 0 n
 
 -- a type: its length byte, then its bytes
 unfoldable pub typeBytes : T → List ℕ

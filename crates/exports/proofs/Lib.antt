@@ -1,3 +1,4 @@
--- Laws of giving an answer.
+-- Laws of giving an answer, and that there is no second one.
 mod Laid
 mod Serving
+pub mod Once

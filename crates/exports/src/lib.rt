@@ -10,7 +10,7 @@ ghost use Rattle.base.specs.Pick.{pick};
 ghost use Rattle.type_service.specs.Services.{Answered, typesFile};
 ghost use Rattle.compile_service.specs.Files.{listFile};
 ghost use Rattle.run_service.specs.Runs.{RunAnswered};
-ghost use Rattle.exports.specs.Given.{Given};
+ghost use Rattle.exports.specs.Given.{EntriesGiven};
 ghost use Rattle.exports.specs.Served.{Served, JudgeServed, RunServed};
 ghost use Rattle.exports.specs.Entries.{entriesOf, tableEntries, listEntries, traceEntries, typeOfEntries, runEntries};
 
@@ -26,7 +26,7 @@ fn give(
     d: u64,
     e: u64,
 ) -> u8
-    ensures { λ r. ⌜ Given (now (answer .entry)) (now (answer .exit)) r (number ∷ file ∷ place ∷ a ∷ b ∷ c ∷ d ∷ e ∷ []) ⌝ }
+    ensures { λ r. ⌜ EntriesGiven (now (answer .entry)) (now (answer .exit)) r (number ∷ file ∷ place ∷ a ∷ b ∷ c ∷ d ∷ e ∷ []) ⌝ }
 {
     if answer.len() < 8 {
         return 255;
@@ -44,7 +44,7 @@ fn give(
 
 // Gives what a reader answers.
 fn give_check(answer: &mut [u64], check: Check, a: u64, b: u64, c: u64) -> u8
-    ensures { λ r. ⌜ Given (now (answer .entry)) (now (answer .exit)) r (entriesOf check a b c) ⌝ }
+    ensures { λ r. ⌜ EntriesGiven (now (answer .entry)) (now (answer .exit)) r (entriesOf check a b c) ⌝ }
 {
     let Check::Refuse(x) = check else {
         return give(answer, 0, 0, 0, a, b, c, 0, 0);
@@ -55,7 +55,7 @@ fn give_check(answer: &mut [u64], check: Check, a: u64, b: u64, c: u64) -> u8
 // Reads a table: numbers 1 to 9, or S, T and P.
 #[no_mangle]
 pub extern "C" fn mirvashol_check_table(table: &[u8], answer: &mut [u64]) -> u8
-    ensures { λ r. ⌜ Given (now (answer .entry)) (now (answer .exit)) r (tableEntries (now (table .entry))) ⌝ }
+    ensures { λ r. ⌜ EntriesGiven (now (answer .entry)) (now (answer .exit)) r (tableEntries (now (table .entry))) ⌝ }
 {
     let check = table::check_table(table);
     let a = table_layout::symbol_count(table) as u64;
@@ -67,7 +67,7 @@ pub extern "C" fn mirvashol_check_table(table: &[u8], answer: &mut [u64]) -> u8
 // Reads a list by itself, where the table has so many free symbols: numbers 1 to 5, or S, N and where the statements begin.
 #[no_mangle]
 pub extern "C" fn mirvashol_check_list(list: &[u8], free: usize, answer: &mut [u64]) -> u8
-    ensures { λ r. ⌜ Given (now (answer .entry)) (now (answer .exit)) r (listEntries (now (list .entry)) free) ⌝ }
+    ensures { λ r. ⌜ EntriesGiven (now (answer .entry)) (now (answer .exit)) r (listEntries (now (list .entry)) free) ⌝ }
 {
     let check = list::check_list(list, at_most(free));
     let a = list::symbol_count(list) as u64;
@@ -79,7 +79,7 @@ pub extern "C" fn mirvashol_check_list(list: &[u8], free: usize, answer: &mut [u
 // Reads a trace: numbers 1 to 6, or V, K and F.
 #[no_mangle]
 pub extern "C" fn mirvashol_check_trace(trace: &[u8], answer: &mut [u64]) -> u8
-    ensures { λ r. ⌜ Given (now (answer .entry)) (now (answer .exit)) r (traceEntries (now (trace .entry))) ⌝ }
+    ensures { λ r. ⌜ EntriesGiven (now (answer .entry)) (now (answer .exit)) r (traceEntries (now (trace .entry))) ⌝ }
 {
     let check = trace::check_trace(trace);
     let a = trace::value_count(trace) as u64;
@@ -91,7 +91,7 @@ pub extern "C" fn mirvashol_check_trace(trace: &[u8], answer: &mut [u64]) -> u8
 // The part of a list that holds a symbol's type: where it starts and how long it is.
 #[no_mangle]
 pub extern "C" fn mirvashol_type_of(list: &[u8], symbol: usize, answer: &mut [u64]) -> u8
-    ensures { λ r. ⌜ Given (now (answer .entry)) (now (answer .exit)) r (typeOfEntries (now (list .entry)) symbol) ⌝ }
+    ensures { λ r. ⌜ EntriesGiven (now (answer .entry)) (now (answer .exit)) r (typeOfEntries (now (list .entry)) symbol) ⌝ }
 {
     let part = list::type_part(list, symbol);
     let Part::At(start, count) = part else {
@@ -158,7 +158,7 @@ pub extern "C" fn mirvashol_run(
 
 // Gives what a run answers.
 fn give_run(answer: &mut [u64], check: Check, ran: Ran) -> u8
-    ensures { λ r. ⌜ Given (now (answer .entry)) (now (answer .exit)) r (runEntries check ran) ⌝ }
+    ensures { λ r. ⌜ EntriesGiven (now (answer .entry)) (now (answer .exit)) r (runEntries check ran) ⌝ }
 {
     let Check::Refuse(x) = check else {
         let a = ran.ending as u64;

@@ -13,9 +13,8 @@ use Rattle.marks.specs.Put.{Put}
 use Rattle.entries.specs.Tiling.{listed}
 use Rattle.entries.proofs.Tiling.{listed-length}
 use Rattle.table_layout.specs.Layout.{symbols}
-use Rattle.calculus.specs.Tables.{isIn, Sort, missing, free}
-use Rattle.calculus.specs.Version1.{signature1}
-use Rattle.decoded.specs.Table.{sortAt, tableOf}
+use Rattle.calculus.specs.Tables.{isIn, Sort, missing}
+use Rattle.decoded.specs.Table.{sortAt, freeOf}
 use Rattle.free_symbols.specs.Free.{boundIn, freeTo, ifFree, Lists}
 
 -- ── In order ──
@@ -50,7 +49,7 @@ free-more s x =
     let n : 0 + length (listed (sortAt s) 0 x) ≡ x = omega (arith, listed-length (sortAt s) 0 x) in
     rw (add-one, listed-last (sortAt s) 0 x x (omega arith), missing-more 0 (listed (sortAt s) 0 x) (sortAt s x) (boundIn s), n)
 
-pub free-all : (s : List ℕ) → freeTo s (symbols s) ≡ free signature1 (tableOf s)
+pub free-all : (s : List ℕ) → freeTo s (symbols s) ≡ freeOf s
 unfolding freeTo boundIn
 free-all s = refl
 

@@ -13,9 +13,9 @@ use Rattle.table_layout.specs.Layout.{steps}
 use Rattle.table_binding.specs.Binding.{binds}
 use Rattle.table.specs.Faults.{tableRungs}
 use Rattle.calculus.specs.Terms.{bound}
-use Rattle.calculus.specs.Tables.{isIn, missing, free}
+use Rattle.calculus.specs.Tables.{isIn, missing}
 use Rattle.calculus.specs.Version1.{signature1}
-use Rattle.decoded.specs.Table.{sortAt, tableOf}
+use Rattle.decoded.specs.Table.{sortAt, tableOf, freeOf}
 
 -- a field of some step binds x
 unfoldable pub isBound : List ℕ → ℕ → Bool
@@ -45,4 +45,4 @@ ListsNext marks x array array′ n n′ = (l ys : List ℕ) → Put blank marks 
 
 -- where 1 to 9 pass, an array that has a place for every byte now begins with the n free symbols
 abbrev pub FreeListed : List ℕ → List ℕ → List ℕ → ℕ → Type 0
-FreeListed s array array′ n = least (tableRungs s) ≡ Pass → length array ≡ 256 → Lists (free signature1 (tableOf s)) array′ n
+FreeListed s array array′ n = least (tableRungs s) ≡ Pass → length array ≡ 256 → Lists (freeOf s) array′ n

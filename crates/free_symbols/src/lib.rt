@@ -2,15 +2,12 @@
 // is said where 1 to 9 pass.
 ghost use mathlib.Core.Path.{_≡_};
 ghost use Prim.Native.Nat.{_+_, _≤_, _<_};
-ghost use lib.ListN.{length};
 ghost use Rattle.answers.specs.Ladder.{least};
 ghost use Rattle.answers.specs.declared.Check.the-variants.{Pass};
 ghost use Rattle.marks.specs.Put.{Put};
 ghost use Rattle.table.specs.Faults.{tableRungs};
 ghost use Rattle.table_binding.specs.Binding.{bindsAt, binds};
-ghost use Rattle.calculus.specs.Tables.{free};
-ghost use Rattle.calculus.specs.Version1.{signature1};
-ghost use Rattle.decoded.specs.Table.{tableOf};
+ghost use Rattle.decoded.specs.Table.{freeCount};
 ghost use Rattle.free_symbols.specs.Free.{isBound, ListsNext, FreeListed};
 
 // Marks the symbol that field j of step k binds, if it binds one.
@@ -76,7 +73,7 @@ pub fn list_free(s: &[u8], list: &mut [u8; 256]) -> u8
 
 // The number of free symbols.
 pub fn free_count(s: &[u8]) -> u16
-    ensures { λ r. ⌜ (least (tableRungs (now (s .entry))) ≡ Pass → r ≡ length (free signature1 (tableOf (now (s .entry))))) ⌝ }
+    ensures { λ r. ⌜ (least (tableRungs (now (s .entry))) ≡ Pass → r ≡ freeCount (now (s .entry))) ⌝ }
 {
     let mut list = [0u8; 256];
     list_free(s, &mut list) as u16

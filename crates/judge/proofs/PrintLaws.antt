@@ -8,9 +8,9 @@ use Rattle.answers.specs.declared.Check.{Check}
 use Rattle.buffers.specs.Over.{over}
 use Rattle.judge_service.specs.Judged.{Judged}
 use Rattle.lines.specs.Lines.{CheckPut}
-use Rattle.judge.specs.Printed.{Printed}
+use Rattle.judge.specs.Printed.{VerdictPrinted}
 
-pub line-printed : (t l z o : List ℕ) (a : Check) (r : ℕ) → Judged t l a → CheckPut a z o r → Printed t l z o r
+pub line-printed : (t l z o : List ℕ) (a : Check) (r : ℕ) → Judged t l a → CheckPut a z o r → VerdictPrinted t l z o r
 unfolding over
 line-printed t l z o a r j p = record {
   inside = p .inside;

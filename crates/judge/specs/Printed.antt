@@ -8,7 +8,7 @@ use Rattle.judge_service.specs.Judged.{Judged}
 use Rattle.lines.specs.Lines.{CheckLine}
 
 -- the judge's answer, as a line at the start of a buffer that is long enough; r is its length
-pub record Printed (t l z o : List ℕ) (r : ℕ) : Type 0 where
+pub record VerdictPrinted (t l z o : List ℕ) (r : ℕ) : Type 0 where
   pub inside : r ≤ length o
   pub counted : r ≡ length (take r o)
   pub line : 80 ≤ length z → (a : Check) × Judged t l a × CheckLine a (take r o)

@@ -1,11 +1,11 @@
-// The judge program: `judge TABLE LIST` writes one line for the list: `accepted`, or the refusal line. A file that can't be read is
-// named on standard error, and nothing is written.
+// The judge program: `judge TABLE LIST` writes one line for the list: `accepted`, or the refusal line. A file that can't be opened
+// is named on standard error, and nothing is written.
 use libc::STDOUT_FILENO;
-ghost use Rattle.judge.specs.Printed.{Printed};
+ghost use Rattle.judge.specs.Printed.{VerdictPrinted};
 
 // What is written for a list, at the start of a buffer of 80 bytes, and its length.
 fn print(table: &[u8], list: &[u8], out: &mut [u8]) -> usize
-    ensures { λ r. ⌜ Printed (now (table .entry)) (now (list .entry)) (now (out .entry)) (now (out .exit)) r ⌝ }
+    ensures { λ r. ⌜ VerdictPrinted (now (table .entry)) (now (list .entry)) (now (out .entry)) (now (out .exit)) r ⌝ }
 {
     let check = judge_service::judge_list(table, list);
     lines::put_check(out, check)

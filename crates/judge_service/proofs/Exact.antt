@@ -6,11 +6,9 @@ use Prim.Native.Nat.{ℕ, _<_}
 use native.Mathlib.Omega.{arith}
 use lib.ListN.{length, take, drop}
 use lib.Seq.{take-append-seam}
-use Rattle.answers.specs.Ladder.{least}
 use Rattle.answers.specs.declared.Check.{Check}
 use Rattle.answers.specs.declared.Check.the-variants.{Pass, Refuse}
 use Rattle.table_layout.specs.Layout.{symbols}
-use Rattle.list.specs.Faults.{listRungs}
 use Rattle.buffers.specs.Over.{over}
 use Rattle.calculus.specs.Tables.{denoted}
 use Rattle.calculus.specs.Figure2.{Env}
@@ -22,16 +20,15 @@ use Rattle.rendering.specs.Lists.{StatementList, Answer, judged, FaithfulList, 
 use Rattle.rendering.proofs.Version1Laws.{answer-once1, translation-is-faithful1, every-term-is-made1}
 use Rattle.decoded.specs.Table.{tableOf}
 use Rattle.decoded.proofs.Checked.{table-checked}
-use Rattle.decoded_list.specs.Bytes.{listBytes}
+use Rattle.decoded_list.specs.Bytes.{listBytes, typesTo}
 use Rattle.decoded_list.proofs.Once.{file-once}
-use Rattle.compiled.specs.Compiled.{compiled, freeCount}
+use Rattle.compiled.specs.Compiled.{compiled}
 use Rattle.statement_counts.proofs.Ranged.{in-range, none-idle}
-use Rattle.type_lists.specs.Lists.{typesTo}
 use Rattle.type_service.specs.Services.{IsWidest, Answered, written}
 use Rattle.type_service.proofs.ServiceLaws.{same-widest, not-both, refused-once}
 use Rattle.compile_service.specs.Files.{listFile}
 use Rattle.compile_service.proofs.ReadBack.{file-reads-back}
-use Rattle.judge_service.specs.Judged.{verdictCheck, answerCheck, Judged, table-refused, list-refused, list-judged}
+use Rattle.judge_service.specs.Judged.{verdictCheck, answerCheck, Judged, table-refused, list-refused, list-judged, FaithfulFile}
 
 -- ── No second answer ──
 
@@ -55,15 +52,6 @@ module _ (t l : List ℕ) where
   judged-once a b (list-judged w e f p) (list-judged v g h q) = ap answerCheck (same-answer _ _ _ _ _ _ w v f h p q)
 
 -- ── Accepted exactly if faithful ──
-
--- a list that is the file of a faithful rendering of the table with its widest types, and has no fault 1 to 5
-pub record FaithfulFile (t l : List ℕ) : Type 0 where
-  pub Γ : Env signature1
-  pub list : StatementList signature1
-  pub widest : IsWidest t Γ
-  pub in-order : least (listRungs l (freeCount t)) ≡ Pass
-  pub is-file : l ≡ listBytes list
-  pub faithful : FaithfulList signature1 halves (tableOf t) (typesTo Γ (symbols t)) list
 
 accepted-answer : (t : List ℕ) (Γ : Env signature1) (m : StatementList signature1) (a : Answer) → ListAnswerIs signature1 halves (tableOf t) (typesTo Γ (symbols t)) m a → answerCheck a ≡ Pass
     → FaithfulList signature1 halves (tableOf t) (typesTo Γ (symbols t)) m

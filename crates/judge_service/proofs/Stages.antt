@@ -2,7 +2,7 @@
 use mathlib.Core.Path.{_≡_, sym, ap, _∙_}
 use mathlib.Core.List.{List}
 use Prim.Native.Nat.{ℕ}
-use Rattle.answers.specs.Ladder.{least}
+use Rattle.answers.specs.Ladder.{refusal, least}
 use Rattle.answers.specs.declared.Refusal.{Refusal}
 use Rattle.answers.specs.declared.Check.{Check}
 use Rattle.answers.specs.declared.Check.the-variants.{Pass, Refuse}
@@ -15,18 +15,17 @@ use Rattle.calculus.specs.Version1.{signature1}
 use Rattle.rendering.specs.Rendering.{halves}
 use Rattle.rendering.specs.Lists.{types-differ, types-equal}
 use Rattle.rendering.proofs.JudgeLaws.{judge-is-exact}
-use Rattle.decoded.specs.Table.{tableOf}
+use Rattle.decoded.specs.Table.{tableOf, freeCount}
 use Rattle.decoded.proofs.Checked.{table-checked}
 use Rattle.decoded.proofs.Unlike.{terms-unrepeated}
 use Rattle.decoded_list.specs.Decoded.{Decoded}
 use Rattle.decoded_list.specs.Statements.{statementsOf}
 use Rattle.decoded_list.proofs.Reading.{list-decoded}
-use Rattle.compiled.specs.Compiled.{freeCount}
+use Rattle.decoded_list.specs.Bytes.{typesTo}
 use Rattle.judging.specs.Verdicts.{StatementsJudged}
 use Rattle.judging.specs.declared.Verdict.the-variants.{Accepted, NotDue, Unfinished}
-use Rattle.type_lists.specs.Lists.{typesTo}
 use Rattle.type_match.specs.Alike.{Alike, alike, unlike, Matched}
-use Rattle.type_service.specs.Services.{refusal, IsWidest, SlotsTyped}
+use Rattle.type_service.specs.Services.{IsWidest, SlotsTyped}
 use Rattle.type_service.proofs.ServiceLaws.{Typed}
 use Rattle.judge_service.specs.Judged.{verdictCheck, answerCheck, VerdictGiven, Judged, table-refused, list-refused, list-judged}
 

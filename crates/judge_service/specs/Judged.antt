@@ -1,9 +1,9 @@
 -- What the judge answers, in the words of the meaning: the table is refused, the list is refused by itself, or the list is judged
--- against the table with its widest types. Assumes nothing: these are definitions.
+-- against the table with its widest types; and what the file of a faithful list is. Assumes nothing: these are definitions.
 use mathlib.Core.Path.{_≡_}
 use mathlib.Core.List.{List}
 use Prim.Native.Nat.{ℕ}
-use Rattle.answers.specs.Ladder.{least}
+use Rattle.answers.specs.Ladder.{refusal, least}
 use Rattle.answers.specs.declared.Refusal.{Refusal}
 use Rattle.answers.specs.declared.Check.{Check}
 use Rattle.answers.specs.declared.Check.the-variants.{Pass, Refuse}
@@ -14,13 +14,11 @@ use Rattle.calculus.specs.Figure2.{Env}
 use Rattle.calculus.specs.Version1.{signature1}
 use Rattle.rendering.specs.Rendering.{halves}
 use Rattle.rendering.specs.Judge.{Verdict, accepted, notDue, unfinished, judge}
-use Rattle.rendering.specs.Lists.{StatementList, Answer, typesDiffer, judged, ListAnswerIs}
-use Rattle.decoded.specs.Table.{tableOf}
-use Rattle.decoded_list.specs.Bytes.{listBytes}
+use Rattle.rendering.specs.Lists.{StatementList, FaithfulList, Answer, typesDiffer, judged, ListAnswerIs}
+use Rattle.decoded.specs.Table.{tableOf, freeCount}
+use Rattle.decoded_list.specs.Bytes.{listBytes, typesTo}
 use Rattle.decoded_list.specs.Statements.{statementsOf}
-use Rattle.compiled.specs.Compiled.{freeCount}
-use Rattle.type_lists.specs.Lists.{typesTo}
-use Rattle.type_service.specs.Services.{refusal, IsWidest, TableRefused}
+use Rattle.type_service.specs.Services.{IsWidest, TableRefused}
 
 -- document 01's number of a verdict, with file and place
 unfoldable pub verdictCheck : Verdict → Check
@@ -44,3 +42,12 @@ pub data Judged (t l : List ℕ) : Check → Type 0 where
   list-refused : {Γ : Env signature1} {x : Refusal} → IsWidest t Γ → least (listRungs l (freeCount t)) ≡ Refuse x → Judged t l (Refuse x)
   list-judged : {Γ : Env signature1} {m : StatementList signature1} {a : Answer} → IsWidest t Γ → least (listRungs l (freeCount t)) ≡ Pass → l ≡ listBytes m
       → ListAnswerIs signature1 halves (tableOf t) (typesTo Γ (symbols t)) m a → Judged t l (answerCheck a)
+
+-- a list that is the file of a faithful rendering of the table with its widest types, and has no fault 1 to 5
+pub record FaithfulFile (t l : List ℕ) : Type 0 where
+  pub Γ : Env signature1
+  pub list : StatementList signature1
+  pub widest : IsWidest t Γ
+  pub in-order : least (listRungs l (freeCount t)) ≡ Pass
+  pub is-file : l ≡ listBytes list
+  pub faithful : FaithfulList signature1 halves (tableOf t) (typesTo Γ (symbols t)) list

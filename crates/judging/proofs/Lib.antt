@@ -10,4 +10,3 @@ pub mod FindLaws
 pub mod ReadLaws
 pub mod ListedLaws
 pub mod WalkLaws
-pub mod VerdictLaws

@@ -18,14 +18,13 @@ use Rattle.table_layout.specs.Layout.{steps}
 use Rattle.table.specs.Faults.{tableRungs}
 use Rattle.list.specs.Layout.{statements, statementsAt, gives}
 use Rattle.calculus.specs.Scope.{All}
-use Rattle.calculus.specs.Tables.{free}
 use Rattle.calculus.specs.Terms.{bound}
 use Rattle.calculus.specs.Version1.{signature1}
 use Rattle.rendering.specs.Rendering.{halves}
 use Rattle.rendering.specs.Judge.{Meaning, symbol, Verdict as MeantVerdict, accepted, notDue, turn, onTurn, atEnd, judgeFrom, judge}
 use Rattle.rendering.proofs.Base.{all-at}
 use Rattle.rendering.proofs.FreeLaws.{missing-below}
-use Rattle.decoded.specs.Table.{tableOf}
+use Rattle.decoded.specs.Table.{tableOf, freeCount, freeOf}
 use Rattle.decoded.proofs.Steps.{sorts-length}
 use Rattle.decoded_list.specs.Statements.{statementAt, statementsOf}
 use Rattle.decoded.specs.Indexes.{entriesOf, meaningOf}
@@ -60,34 +59,34 @@ get-symbol (x ∷ l) zero h = refl
 get-symbol (x ∷ l) (suc p) h = get-symbol l p (omega arith)
 
 module _ (t : List ℕ) (e : least (tableRungs t) ≡ Pass) where
-  free-small : All (λ x. x < 0 + length (tableOf t .sorts)) (free signature1 (tableOf t))
+  free-small : All (λ x. x < 0 + length (tableOf t .sorts)) (freeOf t)
   free-small = missing-below 0 (tableOf t .sorts) (bound signature1 (tableOf t .steps))
 
   -- the array begins with the free symbols, and the free symbols are what the first registers mean
-  start-held : (z : List ℕ) (n : ℕ) → Lists (free signature1 (tableOf t)) z n → Held (map symbol (free signature1 (tableOf t))) z
+  start-held : (z : List ℕ) (n : ℕ) → Lists (freeOf t) z n → Held (map symbol (freeOf t)) z
   unfolding coded Small
-  start-held z n h = record { size = h .size; at = λ p u w. one p (rw (length-map (free signature1 (tableOf t)) symbol) at w) }
+  start-held z n h = record { size = h .size; at = λ p u w. one p (rw (length-map (freeOf t) symbol) at w) }
     where
-      one : (p : ℕ) → p < length (free signature1 (tableOf t)) → Meant (map symbol (free signature1 (tableOf t))) p (getD z p 0)
+      one : (p : ℕ) → p < freeCount t → Meant (map symbol (freeOf t)) p (getD z p 0)
       one p w =
           let s = all-at free-small p w 0 in
           let k = counts-small t e in
           record {
-            meaning = symbol (getD (free signature1 (tableOf t)) p 0);
-            is-given = get-symbol (free signature1 (tableOf t)) p w;
+            meaning = symbol (getD (freeOf t) p 0);
+            is-given = get-symbol (freeOf t) p w;
             small = omega (arith, s, sorts-length t);
             as-byte = h .at p (omega (arith, h .count));
           }
 
-  pub going-start : (l z : List ℕ) (n : ℕ) (a : State) → a .step ≡ 0 → a .half ≡ false → Lists (free signature1 (tableOf t)) z n → Going t l z n a 0
+  pub going-start : (l z : List ℕ) (n : ℕ) (a : State) → a .step ≡ 0 → a .half ≡ false → Lists (freeOf t) z n → Going t l z n a 0
   unfolding judge dueFrom meaningOf entriesOf
   going-start l z n a p q h =
       let x : steps t - 0 ≡ steps t = omega arith in
       let y : statements l - 0 ≡ statements l = omega arith in
       record {
-        meanings = map symbol (free signature1 (tableOf t));
+        meanings = map symbol (freeOf t);
         held = start-held z n h;
-        count = h .count ∙ sym (length-map (free signature1 (tableOf t)) symbol);
+        count = h .count ∙ sym (length-map (freeOf t) symbol);
         done = λ w. absurd (clash (sym q ∙ w));
         same = rw (p, q, x, y);
       }

@@ -15,11 +15,10 @@ use Rattle.table.specs.Faults.{tableRungs}
 use Rattle.list.specs.Faults.{listRungs}
 use Rattle.calculus.specs.Signature.{Two}
 use Rattle.calculus.specs.Terms.{build2, Statement, build}
-use Rattle.calculus.specs.Tables.{free}
 use Rattle.calculus.specs.Version1.{Seal1, signature1}
 use Rattle.rendering.specs.Rendering.{halves}
 use Rattle.rendering.specs.Judge.{Meaning, DuesByIndex, turn, judge}
-use Rattle.decoded.specs.Table.{twoCode, tableOf}
+use Rattle.decoded.specs.Table.{twoCode, tableOf, freeCount, freeOf}
 use Rattle.decoded_list.specs.Statements.{statementOf, statementsOf}
 use Rattle.decoded.specs.Indexes.{entriesOf}
 use Rattle.free_symbols.specs.Free.{Lists}
@@ -95,5 +94,5 @@ Turns t l base i array array′ registers a r =
 -- the whole walk, from an array that begins with the free symbols
 abbrev pub WalksOn : List ℕ → List ℕ → List ℕ → ℕ → Verdict → Type 0
 WalksOn t l array n r =
-    least (tableRungs t) ≡ Pass → least (listRungs l (length (free signature1 (tableOf t)))) ≡ Pass → Lists (free signature1 (tableOf t)) array n
+    least (tableRungs t) ≡ Pass → least (listRungs l (freeCount t)) ≡ Pass → Lists (freeOf t) array n
     → verdictOf r ≡ judge signature1 halves (tableOf t) (statementsOf l)

@@ -3,18 +3,16 @@ use mathlib.Core.Path.{_≡_}
 use mathlib.Core.List.{List}
 use Prim.Native.Nat.{ℕ}
 use lib.Dec.{ltb}
-use lib.ListN.{length}
 use Rattle.base.specs.Pick.{pick}
 use Rattle.answers.specs.Ladder.{least}
 use Rattle.answers.specs.declared.Check.the-variants.{Pass}
 use Rattle.table_layout.specs.Layout.{steps}
 use Rattle.table.specs.Faults.{tableRungs}
 use Rattle.list.specs.Faults.{listRungs}
-use Rattle.calculus.specs.Tables.{free}
 use Rattle.calculus.specs.Version1.{signature1}
 use Rattle.rendering.specs.Rendering.{halves}
 use Rattle.rendering.specs.Judge.{Verdict as MeantVerdict, accepted, notDue, unfinished, judge}
-use Rattle.decoded.specs.Table.{tableOf}
+use Rattle.decoded.specs.Table.{tableOf, freeCount}
 use Rattle.decoded_list.specs.Statements.{statementsOf}
 use Rattle.judging.specs.declared.State.{State}
 use Rattle.judging.specs.declared.Verdict.{Verdict}
@@ -32,5 +30,5 @@ atEndOf t a = pick (ltb (a .step) (steps t)) (Unfinished (a .step)) Accepted
 
 -- where the table passes 1 to 9 and the list passes 1 to 5, the verdict is the judge's
 pub record StatementsJudged (t l : List ℕ) (r : Verdict) : Type 0 where
-  pub verdict : least (tableRungs t) ≡ Pass → least (listRungs l (length (free signature1 (tableOf t)))) ≡ Pass
+  pub verdict : least (tableRungs t) ≡ Pass → least (listRungs l (freeCount t)) ≡ Pass
       → verdictOf r ≡ judge signature1 halves (tableOf t) (statementsOf l)

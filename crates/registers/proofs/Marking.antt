@@ -4,14 +4,12 @@ use mathlib.Core.List.{List, [], _++_, map}
 use Prim.Native.Nat.{ℕ, _+_}
 use Rattle.marks.specs.Put.{blank}
 use Rattle.table_layout.specs.Layout.{symbols}
-use Rattle.calculus.specs.Tables.{free}
-use Rattle.calculus.specs.Version1.{signature1}
 use Rattle.rendering.specs.Judge.{Meaning, symbol, term}
 use Rattle.rendering.proofs.Base.{map-append}
-use Rattle.decoded.specs.Table.{tableOf}
+use Rattle.decoded.specs.Table.{freeOf}
 use Rattle.free_symbols.specs.Free.{boundIn, freeTo as symbolsTo}
 use Rattle.free_symbols.proofs.FreeLaws.{free-none as none-free, free-more as more-free, free-all as all-free}
-use Rattle.registers.specs.Held.{HeldTerms, atStart, ifFree}
+use Rattle.registers.specs.Held.{HeldTerms, atStart, meaningIfFree}
 use Rattle.registers.proofs.HeldLaws.{held-none, symbols-kept}
 
 -- those of the first n symbols
@@ -22,7 +20,7 @@ pub free-none : (s : List ℕ) → freeTo s 0 ≡ []
 unfolding freeTo
 free-none s = rw (none-free s)
 
-pub free-more : (s : List ℕ) (x : ℕ) → freeTo s (x + 1) ≡ freeTo s x ++ ifFree (boundIn s) x
+pub free-more : (s : List ℕ) (x : ℕ) → freeTo s (x + 1) ≡ freeTo s x ++ meaningIfFree (boundIn s) x
 unfolding freeTo
 free-more s x = rw (more-free s x, map-append)
 
@@ -33,4 +31,4 @@ free-all s = rw (all-free s)
 -- no compound term has one yet
 pub none-held : (s z : List ℕ) → z ≡ blank → HeldTerms (atStart s) z
 unfolding atStart
-none-held s z e = symbols-kept [] (free signature1 (tableOf s)) z (held-none term z e)
+none-held s z e = symbols-kept [] (freeOf s) z (held-none term z e)

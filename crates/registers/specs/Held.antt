@@ -13,13 +13,12 @@ use Rattle.marks.specs.Put.{Put, blank}
 use Rattle.entries.specs.Fields.{code}
 use Rattle.table_layout.specs.Layout.{termsAt, termField}
 use Rattle.table.specs.Faults.{tableRungs}
-use Rattle.calculus.specs.Tables.{isIn, free}
-use Rattle.calculus.specs.Version1.{signature1}
+use Rattle.calculus.specs.Tables.{isIn}
 use Rattle.rendering.specs.Judge.{Meaning, symbol, term}
 use Rattle.rendering.specs.Translation.{registerOf, isBuilt}
-use Rattle.decoded.specs.Table.{tableOf}
+use Rattle.decoded.specs.Table.{freeOf}
 use Rattle.decoded.specs.Indexes.{meaningOf}
-use Rattle.free_symbols.specs.Free.{ifFree as symbolIfFree}
+use Rattle.free_symbols.specs.Free.{ifFree}
 
 -- ── By meaning ──
 
@@ -52,7 +51,7 @@ registerAt s ms i = registerOf ms (meaningOf s i)
 
 -- the registers at the start: the free symbols
 unfoldable pub atStart : List ℕ → List Meaning
-atStart s = map symbol (free signature1 (tableOf s))
+atStart s = map symbol (freeOf s)
 
 -- ── By bytes ──
 
@@ -73,14 +72,14 @@ abbrev pub Noted : List ℕ → List ℕ → ℕ → ℕ → Type 0
 Noted z o at mark = Put z o (λ i. both (eqb (getD z at 0) 0) (eqb at i)) mark
 
 -- symbol x, if it is not in l
-abbrev pub ifFree : List ℕ → ℕ → List Meaning
-ifFree l x = map symbol (symbolIfFree l x)
+abbrev pub meaningIfFree : List ℕ → ℕ → List Meaning
+meaningIfFree l x = map symbol (ifFree l x)
 
 -- whatever symbols are marked as bound and whatever meanings the array holds, symbol x follows them if it is not marked
 abbrev pub NotesFree : List ℕ → ℕ → List ℕ → List ℕ → ℕ → ℕ → Type 0
 NotesFree marks x symbols symbols′ registers registers′ =
     (l : List ℕ) (ms : List Meaning) → Put blank marks (λ y. isIn y l) 1 → HeldSymbols ms symbols → registers ≡ length ms
-    → HeldSymbols (ms ++ ifFree l x) symbols′ × (registers′ ≡ length (ms ++ ifFree l x))
+    → HeldSymbols (ms ++ meaningIfFree l x) symbols′ × (registers′ ≡ length (ms ++ meaningIfFree l x))
 
 -- where 1 to 9 pass, an array that held nothing now holds the free symbols, of which there are so many
 abbrev pub FreeNoted : List ℕ → List ℕ → List ℕ → ℕ → Type 0

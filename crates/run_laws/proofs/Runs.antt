@@ -31,6 +31,7 @@ use Rattle.decoded.proofs.Checked.{table-checked}
 use Rattle.decoded.proofs.ValueLaws.{values-length}
 use Rattle.decoded.proofs.TraceValues.{trace-values}
 use Rattle.decoded_list.specs.Statements.{statementsOf}
+use Rattle.decoded_list.specs.Bytes.{typesTo}
 use Rattle.statement_counts.proofs.Ranged.{in-range}
 use Rattle.machine.specs.Statements.{traceOf}
 use Rattle.run_laws.specs.Runs.{AcceptedRunsKeepDemand3}
@@ -40,7 +41,7 @@ use Rattle.run_laws.proofs.Occurring.{process-below}
 -- ── The types of a list ──
 
 -- a process that is typed under Γ is typed under the list of Γ's types, with Message outside it
-pub typed-under-list : (t : List ℕ) (Γ : Env signature1) (As : List T) → least (tableRungs t) ≡ Pass → As ≡ listed Γ 0 (symbols t)
+pub typed-under-list : (t : List ℕ) (Γ : Env signature1) (As : List T) → least (tableRungs t) ≡ Pass → As ≡ typesTo Γ (symbols t)
     → Typed signature1 Γ (process signature1 (tableOf t)) → Typed signature1 (typesOf signature1 As) (process signature1 (tableOf t))
 typed-under-list t Γ As e q ty = typed-same signature1 (length (tableOf t .sorts)) Γ (typesOf signature1 As) same ty (process-below (tableOf t) (table-checked t e) (in-range t e))
   where

@@ -18,12 +18,12 @@ use Rattle.running.specs.Acts.{Ending, finished, no-supply, not-equal, wrong-ke
 use Rattle.running.specs.Processes.{Bindings, Moves, moves-out, moves-in, moves-new, moves-match, moves-split, moves-open, StuckBy, stuck-in, stuck-new, stuck-fresh, stuck-match, stuck-split, stuck-key, stuck-seal, Reaches, stays, moves, Ends, ends-finished, ends-stuck}
 use Rattle.running.specs.Demand3.{ByType, by-received, by-opened, by-fresh, stepOf, valueOf, supplied, Starts, typesOf, start, listRun, leftOver, Lacking, Demand3}
 use Rattle.running.proofs.Version1Laws.{process-by-rules1}
-use Rattle.decoded.specs.Table.{tableOf}
+use Rattle.decoded.specs.Table.{tableOf, freeOf}
 use Rattle.decoded.specs.Values.{valuesOf}
 use Rattle.decoded_list.specs.Statements.{statementsOf}
 use Rattle.machine.specs.Statements.{traceOf, runOf, Told}
 use Rattle.machine.specs.declared.Ran.{Ran}
-use Rattle.starting.specs.Fourteen.{freeOf, Fourteen, starts}
+use Rattle.starting.specs.Fourteen.{Fourteen, starts}
 use Rattle.run_laws.proofs.Runs.{accepted-runs-keep-demand-3}
 use Rattle.run_service.specs.Runs.{Runnable, RunAnswered, ran}
 use Rattle.run_service.specs.Read.{processOf, NotByType, KeepsDemand3}

@@ -19,7 +19,7 @@ use Rattle.machine.specs.declared.Ran.{Ran}
 use Rattle.machine.proofs.OneAnswer.{told-once}
 use Rattle.starting.specs.Fourteen.{Fourteen}
 use Rattle.starting.proofs.Once.{fourteen-once}
-use Rattle.type_service.specs.Services.{Room, enough, short}
+use Rattle.type_service.specs.Services.{RoomChecked, enough, short}
 use Rattle.judge_service.specs.Judged.{Judged}
 use Rattle.judge_service.proofs.Exact.{judged-once}
 use Rattle.run_service.specs.Runs.{valueNeed, messageNeed, Sound, RunRefused, not-accepted, trace-faulty, start-lacks, values-short, messages-short, Runnable, RunAnswered, refused, ran}
@@ -47,7 +47,7 @@ then-once f g a b (passed p r) (stopped {x = x} q) = apart x (f _ _ p q)
 then-once f g a b (passed p r) (passed q s) = g _ _ r s
 
 -- a buffer is long enough, or 15 with the need
-room-once : {need room : ℕ} → Single (Room need room)
+room-once : {need room : ℕ} → Single (RoomChecked need room)
 room-once a b (enough h) (enough k) = refl
 room-once a b (enough h) (short k) = absurd (omega arith)
 room-once a b (short h) (enough k) = absurd (omega arith)
@@ -79,14 +79,14 @@ module _ (t l tr : List ℕ) where
   module _ (z y : List ℕ) where
     -- all tests in order
     abbrev Tested : Check → Type 0
-    Tested = Then (Judged t l) (Then Traced (Then Started (Then (Room (valueNeed l tr) (length z)) (Room (messageNeed l) (length y)))))
+    Tested = Then (Judged t l) (Then Traced (Then Started (Then (RoomChecked (valueNeed l tr) (length z)) (RoomChecked (messageNeed l) (length y)))))
 
     -- they have one answer
     tested-once : Single Tested
     tested-once = then-once (judged-once t l) (then-once traced-once (then-once started-once (then-once room-once room-once)))
 
     -- sound, then the rooms
-    sound-then : {c : Check} → Sound t l tr → Then (Room (valueNeed l tr) (length z)) (Room (messageNeed l) (length y)) c → Tested c
+    sound-then : {c : Check} → Sound t l tr → Then (RoomChecked (valueNeed l tr) (length z)) (RoomChecked (messageNeed l) (length y)) c → Tested c
     sound-then s p = passed (s .accepted) (passed (s .trace-sound) (passed (s .decoded, s .starts) p))
 
     -- what a run's refusal says, test by test

@@ -20,17 +20,16 @@ use Rattle.calculus.specs.Figure2.{Env}
 use Rattle.calculus.specs.Version1.{signature1}
 use Rattle.rendering.specs.Rendering.{halves, Faithful}
 use Rattle.rendering.specs.Lists.{StatementList}
-use Rattle.decoded.specs.Table.{tableOf}
+use Rattle.decoded.specs.Table.{tableOf, freeCount}
 use Rattle.decoded_list.specs.Decoded.{Decoded}
 use Rattle.decoded_list.specs.Statements.{statementsOf}
 use Rattle.decoded_list.proofs.Reading.{list-decoded}
 use Rattle.decoded_list.proofs.Once.{decoded-once, decoded-symbols, decoded-body}
-use Rattle.compiled.specs.Compiled.{freeCount}
+use Rattle.decoded_list.specs.Bytes.{typesTo}
 use Rattle.machine.specs.Statements.{StatementsRun}
 use Rattle.machine.specs.declared.Ran.{Ran}
 use Rattle.starting.specs.Fourteen.{Fourteen, starts, StartsChecked}
-use Rattle.type_lists.specs.Lists.{typesTo}
-use Rattle.type_service.specs.Services.{IsWidest, Room, enough, short}
+use Rattle.type_service.specs.Services.{IsWidest, RoomChecked, enough, short}
 use Rattle.judge_service.specs.Judged.{Judged}
 use Rattle.judge_service.proofs.Exact.{accepted-is-faithful}
 use Rattle.run_service.specs.Runs.{valueNeed, messageNeed, Sound, not-accepted, trace-faulty, start-lacks, values-short, messages-short, Runnable, RunChecked, noRun, RunAnswered, refused, ran}
@@ -94,12 +93,12 @@ module _ (t l tr z y : List ℕ) where
 
   module _ (s : Sound t l tr) where
     -- number 15 of the values' buffer
-    pub values-stop : (need : ℕ) (d : Check) (x : Refusal) → need ≡ valueNeed l tr → Room need (length z) d → d ≡ Refuse x → RunChecked t l tr z y d
+    pub values-stop : (need : ℕ) (d : Check) (x : Refusal) → need ≡ valueNeed l tr → RoomChecked need (length z) d → d ≡ Refuse x → RunChecked t l tr z y d
     values-stop need d x n (enough h) g = let v : _≡_ {A = ℕ} 0 1 = cc in absurd (omega arith)
     values-stop need d x n (short h) g = rw n (values-short s (rw n at h))
 
     -- of the messages' buffer, or no refusal
-    pub messages-left : valueNeed l tr ≤ length z → (need : ℕ) (r : Check) → need ≡ messageNeed l → Room need (length y) r → RunChecked t l tr z y r
+    pub messages-left : valueNeed l tr ≤ length z → (need : ℕ) (r : Check) → need ≡ messageNeed l → RoomChecked need (length y) r → RunChecked t l tr z y r
     messages-left h need r n (short o) = rw n (messages-short s h (rw n at o))
     messages-left h need r n (enough o) = record { sound = s; value-room = h; message-room = rw n at o }
 

@@ -4,7 +4,7 @@ use mathlib.Core.Path.{_≡_}
 use mathlib.Core.List.{List}
 use Prim.Native.Nat.{ℕ, _+_, _*_, _≤_, _<_}
 use lib.ListN.{length}
-use Rattle.answers.specs.Ladder.{least}
+use Rattle.answers.specs.Ladder.{refusal, least}
 use Rattle.answers.specs.declared.Refusal.{Refusal}
 use Rattle.answers.specs.declared.Check.{Check}
 use Rattle.answers.specs.declared.Check.the-variants.{Pass, Refuse}
@@ -17,7 +17,6 @@ use Rattle.decoded_list.specs.Statements.{statementsOf}
 use Rattle.machine.specs.Statements.{runOf, Told}
 use Rattle.machine.specs.declared.Ran.{Ran}
 use Rattle.starting.specs.Fourteen.{Fourteen}
-use Rattle.type_service.specs.Services.{refusal}
 use Rattle.judge_service.specs.Judged.{Judged}
 
 -- the bytes that a run needs: for its values, and for its messages

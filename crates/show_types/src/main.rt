@@ -64,7 +64,7 @@ fn say_type(t: &[u8]) {
     }
 }
 
-// The line of symbol x, whose type stands at a place of the types.
+// The line of symbol x, whose type has the bytes t.
 fn say_symbol(table: &[u8], bound: &[u8; 256], x: u8, t: &[u8]) {
     io::print_decimal(STDOUT_FILENO, x as u64);
     io::write_all(STDOUT_FILENO, &SPACE);

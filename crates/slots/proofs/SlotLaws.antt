@@ -17,7 +17,7 @@ use Rattle.base.specs.Pick.{pick}
 use Rattle.types.specs.Types.{meet}
 use Rattle.types.specs.Prefix.{nodes}
 use Rattle.types.specs.Version1.{types1, T, bytes}
-use Rattle.types.proofs.Version1Laws.{length1, once1}
+use Rattle.types.proofs.Version1Laws.{length1}
 use Rattle.buffers.specs.Over.{over, overIf}
 use Rattle.buffers.proofs.OverLaws.{over-fits}
 use Rattle.type_bytes.specs.Meets.{Meets}
@@ -112,13 +112,6 @@ module _ (w y : List ℕ) (s p at e : ℕ) (ha : at ≡ s * 129) (he : e ≡ at 
   pub met-put : (n : ℕ) (ys : List ℕ) → Meets (take (e - at) (drop at w)) 0 y p z low (Low n) → ys ≡ overIf (take (n - 0) low) (take (e - at) (drop at w))
       → Met w s y p (putMid at (e - at) w ys) true
   met-put n ys m q = met-over n ys m (q ∙ over-fits (take (n - 0) low) (take (e - at) (drop at w)) (simp (length-take, length-drop) (omega (arith, m .fits))))
-
--- the slots say which types they hold
-pub holds-once : (w : List ℕ) (Γ Δ : Env signature1) → Holds w Γ → Holds w Δ → (x : ℕ) → x < 96 → Γ x ≡ Δ x
-holds-once w Γ Δ h k x l =
-    let (r, e) = h .slot x l in
-    let (q, f) = k .slot x l in
-    once1 (Γ x) (Δ x) r q (sym e ∙ f) .0
 
 -- ── The start ──
 

@@ -3,6 +3,7 @@
 use type_bytes::Lower;
 ghost use mathlib.Core.Path.{_≡_};
 ghost use mathlib.Core.List.{[], _∷_};
+ghost use Prim.Native.Nat.{_*_};
 ghost use Rattle.types.specs.Version1.{bytes};
 ghost use Rattle.slots.specs.Terms.{codeAt, partAt};
 ghost use Rattle.slots.specs.Slots.{Met, widestOf, Started, StartedAll};
@@ -39,11 +40,18 @@ fn widest_code(table: &[u8], x: u8) -> u8
     0
 }
 
+// Where slot x begins.
+pub fn slot_at(x: u8) -> usize
+    ensures { λ r. ⌜ r ≡ x * 129 ⌝ }
+{
+    base::wide(x) * 129
+}
+
 // Starts slot x.
 fn start_slot(work: &mut [u8], table: &[u8], x: u8)
     ensures { λ _. ⌜ Started (now (table .entry)) x (now (work .entry)) (now (work .exit)) ⌝ }
 {
-    let at = base::wide(x) * 129;
+    let at = slot_at(x);
     if at < work.len() {
         work[at] = widest_code(table, x);
     }
@@ -64,7 +72,7 @@ pub fn start(work: &mut [u8], table: &[u8])
 fn slot_meet(work: &mut [u8], s: u8, ty: &[u8], p: usize) -> bool
     ensures { λ r. ⌜ Met (now (work .entry)) s (now (ty .entry)) p (now (work .exit)) r ⌝ }
 {
-    let at = base::wide(s) * 129;
+    let at = slot_at(s);
     let e = at + 129;
     if work.len() < e {
         return false;

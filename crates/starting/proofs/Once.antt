@@ -8,6 +8,7 @@ use native.Mathlib.Decide.{decLt}
 use lib.ListN.{length, getD}
 use Rattle.answers.specs.declared.Check.{Check}
 use Rattle.answers.specs.declared.Check.the-variants.{Refuse}
+use Rattle.answers.specs.Ladder.{refusal}
 use Rattle.entries.specs.Tiling.{listed}
 use Rattle.trace.specs.Layout.{startings, starting}
 use Rattle.types.specs.Types.{Ty}
@@ -19,7 +20,8 @@ use Rattle.running.specs.Values.{visible, index}
 use Rattle.running.specs.Demand3.{Starts, starts-nil, starts-cons, typesOf}
 use Rattle.decoded.specs.Values.{valuesOf}
 use Rattle.decoded.proofs.Listed.{listed-all-at}
-use Rattle.starting.specs.Fourteen.{freeOf, startFits, Fourteen, starts, wrong-number, lacks}
+use Rattle.decoded.specs.Table.{freeOf, freeCount}
+use Rattle.starting.specs.Fourteen.{startFits, Fourteen, starts, wrong-number, lacks}
 
 -- each starting value has its type
 starts-each : {Γ : ℕ → Ty (signature1 .types)} {es : List (Entry signature1 Atom)} {xs is : List ℕ} → Starts signature1 Γ es xs is
@@ -34,7 +36,7 @@ module _ (t : List ℕ) (As : List T) (tr : List ℕ) where
   Lacks i = startFits As tr (getD (freeOf t) i 0) i ≡ false
 
   -- none lacks it where all start
-  not-both : startings tr ≡ length (freeOf t) → Starts signature1 (typesOf signature1 As) (valuesOf tr) (freeOf t) (listed (starting tr) 0 (startings tr)) → (i : ℕ) → i < startings tr → ¬ Lacks i
+  not-both : startings tr ≡ freeCount t → Starts signature1 (typesOf signature1 As) (valuesOf tr) (freeOf t) (listed (starting tr) 0 (startings tr)) → (i : ℕ) → i < startings tr → ¬ Lacks i
   not-both n s i h f =
       let v = starts-each s i (omega arith) in
       let w : startFits As tr (getD (freeOf t) i 0) i ≡ true = rw (listed-all-at (starting tr) 0 (startings tr) i h) at v in
@@ -60,4 +62,4 @@ fourteen-once {t} {As} {tr} (wrong-number n) (wrong-number m) = refl
 fourteen-once {t} {As} {tr} (wrong-number n) (lacks m h f g) = absurd (n m)
 fourteen-once {t} {As} {tr} (lacks {i = i} n h f g) (starts m u) = absurd (not-both t As tr m u i h f)
 fourteen-once {t} {As} {tr} (lacks n h f g) (wrong-number m) = absurd (m n)
-fourteen-once {t} {As} {tr} (lacks {i = i} n h f g) (lacks {i = j} m k u w) = ap (λ (p : ℕ). Refuse (record { number = 14; file = 2; place = p })) (first-same t As tr i j f u g w)
+fourteen-once {t} {As} {tr} (lacks {i = i} n h f g) (lacks {i = j} m k u w) = ap (λ (p : ℕ). Refuse (refusal 14 2 p)) (first-same t As tr i j f u g w)

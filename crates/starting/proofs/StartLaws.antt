@@ -9,7 +9,7 @@ use native.Mathlib.Omega.{arith}
 use lib.ListN.{length, take, drop, getD, take-append-drop, length-drop}
 use lib.Seq.{take-all}
 use Rattle.base.specs.Bytes.{byte}
-use Rattle.answers.specs.Ladder.{least}
+use Rattle.answers.specs.Ladder.{refusal, least}
 use Rattle.answers.specs.declared.Check.{Check}
 use Rattle.answers.specs.declared.Check.the-variants.{Pass, Refuse}
 use Rattle.entries.specs.Tiling.{listed}
@@ -29,7 +29,7 @@ use Rattle.rendering.proofs.Base.{all-at}
 use Rattle.rendering.proofs.FreeLaws.{missing-below}
 use Rattle.running.specs.Values.{visible, index}
 use Rattle.running.specs.Demand3.{Starts, starts-nil, starts-cons, typesOf}
-use Rattle.decoded.specs.Table.{sortAt, tableOf}
+use Rattle.decoded.specs.Table.{sortAt, tableOf, freeOf, freeCount}
 use Rattle.decoded.specs.Values.{valuesOf}
 use Rattle.decoded.proofs.Listed.{listed-all-at}
 use Rattle.decoded_list.specs.Decoded.{Decoded}
@@ -37,7 +37,7 @@ use Rattle.decoded_list.proofs.Once.{decoded-body}
 use Rattle.value_table.proofs.Reading.{part-table}
 use Rattle.visible.specs.Seen.{Seen}
 use Rattle.free_symbols.specs.Free.{Lists}
-use Rattle.starting.specs.Fourteen.{freeOf, startFits, starts, wrong-number, lacks, StartsChecked, StartSeen}
+use Rattle.starting.specs.Fourteen.{startFits, starts, wrong-number, lacks, StartsChecked, StartSeen}
 
 -- ── One starting value ──
 
@@ -74,7 +74,7 @@ starts-from Γ es (x ∷ xs) [] n h = absurd (omega arith)
 starts-from Γ es (x ∷ xs) (i ∷ is) n h = starts-cons (h 0 (omega arith)) (starts-from Γ es xs is (omega arith) (λ j l. h (suc j) (omega arith)))
 
 -- free symbols are symbols of the table
-pub free-below : (t : List ℕ) (i : ℕ) → i < length (freeOf t) → getD (freeOf t) i 0 < table-layout.symbols t
+pub free-below : (t : List ℕ) (i : ℕ) → i < freeCount t → getD (freeOf t) i 0 < table-layout.symbols t
 free-below t i h =
     let b : getD (freeOf t) i 0 < 0 + length (tableOf t .sorts) = all-at (missing-below 0 (tableOf t .sorts) (bound signature1 (tableOf t .steps))) i h 0 in
     omega (arith, listed-length (sortAt t) 0 (table-layout.symbols t))
@@ -93,20 +93,20 @@ FreeIn t array n = least (tableRungs t) ≡ Pass → Lists (freeOf t) array n
 
 module _ (t l tr array : List ℕ) (n : ℕ) (f : FreeIn t array n) where
   -- the numbers differ
-  pub fewer-starts : startings tr < n → (r : Check) → r ≡ Refuse (record { number = 14; file = 2; place = startings tr }) → StartsChecked t l tr r
+  pub fewer-starts : startings tr < n → (r : Check) → r ≡ Refuse (refusal 14 2 (startings tr)) → StartsChecked t l tr r
   fewer-starts h r q = record {
     checked = λ e free g k d m.
         let c = f e .count in
-        let z : startings tr ≡ min (startings tr) (length (freeOf t)) = sym (min-eq-left (omega arith)) in
-        rw q (rw z (wrong-number (λ (y : startings tr ≡ length (freeOf t)). omega arith)));
+        let z : startings tr ≡ min (startings tr) (freeCount t) = sym (min-eq-left (omega arith)) in
+        rw q (rw z (wrong-number (λ (y : startings tr ≡ freeCount t). omega arith)));
   }
 
-  pub more-starts : n < startings tr → (r : Check) → r ≡ Refuse (record { number = 14; file = 2; place = n }) → StartsChecked t l tr r
+  pub more-starts : n < startings tr → (r : Check) → r ≡ Refuse (refusal 14 2 n) → StartsChecked t l tr r
   more-starts h r q = record {
     checked = λ e free g k d m.
         let c = f e .count in
-        let z : n ≡ min (startings tr) (length (freeOf t)) = c ∙ sym (min-eq-right (omega arith)) in
-        rw (q, z) (wrong-number (λ (y : startings tr ≡ length (freeOf t)). omega arith));
+        let z : n ≡ min (startings tr) (freeCount t) = c ∙ sym (min-eq-right (omega arith)) in
+        rw (q, z) (wrong-number (λ (y : startings tr ≡ freeCount t). omega arith));
   }
 
   module _ (same : startings tr ≡ n) (i : ℕ) (p : SoFar t l tr i) where
@@ -137,7 +137,7 @@ module _ (t l tr array : List ℕ) (n : ℕ) (f : FreeIn t array n) where
           go e k d m j (inr v) = p .fit e k d m j v
 
       -- it lacks its type
-      pub one-lacks : b ≡ false → (r : Check) → r ≡ Refuse (record { number = 14; file = 2; place = i }) → StartsChecked t l tr r
+      pub one-lacks : b ≡ false → (r : Check) → r ≡ Refuse (refusal 14 2 i) → StartsChecked t l tr r
       one-lacks g r q = record { checked = λ e free z k d m. rw q (lacks (same ∙ f e .count) h (tested e k d m ∙ g) (p .fit e k d m)) }
 
 -- what a negated test tells

@@ -3,8 +3,8 @@ use mathlib.Core.Path.{_≡_}
 use mathlib.Core.Bool.{Bool, true, false}
 use mathlib.Core.List.{List}
 use Prim.Native.Nat.{ℕ, _<_, min}
-use lib.ListN.{length, getD}
-use Rattle.answers.specs.Ladder.{least}
+use lib.ListN.{getD}
+use Rattle.answers.specs.Ladder.{refusal, least}
 use Rattle.answers.specs.declared.Check.{Check}
 use Rattle.answers.specs.declared.Check.the-variants.{Pass, Refuse}
 use Rattle.entries.specs.Tiling.{listed}
@@ -15,17 +15,12 @@ use Rattle.list.specs.Faults.{listRungs}
 use Rattle.trace.specs.Layout.{startings, starting}
 use Rattle.trace.specs.Faults.{traceRungs}
 use Rattle.types.specs.Version1.{T}
-use Rattle.calculus.specs.Tables.{free}
 use Rattle.calculus.specs.Version1.{signature1}
 use Rattle.running.specs.Values.{visible, index}
 use Rattle.running.specs.Demand3.{Starts, typesOf}
-use Rattle.decoded.specs.Table.{tableOf}
+use Rattle.decoded.specs.Table.{freeOf, freeCount}
 use Rattle.decoded.specs.Values.{valuesOf}
 use Rattle.decoded_list.specs.Decoded.{Decoded}
-
--- the free symbols of a file's table
-abbrev pub freeOf : List ℕ → List ℕ
-freeOf t = free signature1 (tableOf t)
 
 -- whether starting value i visibly has the type of symbol x
 abbrev pub startFits : List T → List ℕ → ℕ → ℕ → Bool
@@ -34,10 +29,10 @@ startFits As tr x i = visible signature1 (index signature1 (valuesOf tr)) (types
 -- a starting value for each free symbol, which visibly has its type; or 14 at the smaller number where F isn't that of the free symbols, or
 -- at the first starting value that lacks its type
 pub data Fourteen (t : List ℕ) (As : List T) (tr : List ℕ) : Check → Type 0 where
-  starts : startings tr ≡ length (freeOf t) → Starts signature1 (typesOf signature1 As) (valuesOf tr) (freeOf t) (listed (starting tr) 0 (startings tr)) → Fourteen t As tr Pass
-  wrong-number : ¬ (startings tr ≡ length (freeOf t)) → Fourteen t As tr (Refuse (record { number = 14; file = 2; place = min (startings tr) (length (freeOf t)) }))
-  lacks : {i : ℕ} → startings tr ≡ length (freeOf t) → i < startings tr → startFits As tr (getD (freeOf t) i 0) i ≡ false
-      → ((j : ℕ) → j < i → startFits As tr (getD (freeOf t) j 0) j ≡ true) → Fourteen t As tr (Refuse (record { number = 14; file = 2; place = i }))
+  starts : startings tr ≡ freeCount t → Starts signature1 (typesOf signature1 As) (valuesOf tr) (freeOf t) (listed (starting tr) 0 (startings tr)) → Fourteen t As tr Pass
+  wrong-number : ¬ (startings tr ≡ freeCount t) → Fourteen t As tr (Refuse (refusal 14 2 (min (startings tr) (freeCount t))))
+  lacks : {i : ℕ} → startings tr ≡ freeCount t → i < startings tr → startFits As tr (getD (freeOf t) i 0) i ≡ false
+      → ((j : ℕ) → j < i → startFits As tr (getD (freeOf t) j 0) j ≡ true) → Fourteen t As tr (Refuse (refusal 14 2 i))
 
 -- the answer r for a table without faults 1 to 9, a list without faults 1 to 5 that has as many symbols, and a trace without faults 1 to 6
 pub record StartsChecked (t l tr : List ℕ) (r : Check) : Type 0 where

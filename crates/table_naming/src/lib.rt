@@ -39,7 +39,7 @@ fn mark_all_parts(marks: &mut [u8; 256], s: &[u8])
 }
 
 // Marks the term in field j of step k.
-fn mark_use(marks: &mut [u8; 256], s: &[u8], k: u8, j: u8)
+pub fn mark_use(marks: &mut [u8; 256], s: &[u8], k: u8, j: u8)
     ensures { λ _. ⌜ Put (now (marks .entry)) (now (marks .exit)) (useAt (now (s .entry)) k j) 1 ⌝ }
 {
     let wanted = table_layout::step_role(s, k, j) == codes::IN_TERM;

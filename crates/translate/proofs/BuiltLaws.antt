@@ -91,11 +91,6 @@ module _ (s : List ℕ) (e : least (tableRungs s) ≡ Pass) where
       let c = table-passed s e .entered in
       depth-same (entriesOf s) (table-closed s c) n (suc i) i h (omega arith) (rw (entries-length s) l) ms
 
-  -- what a compound term means
-  pub compound-means : (i : ℕ) → IsCompound s i → meaningOf s i ≡ term i
-  unfolding meaningOf meantBy
-  compound-means i c = rw (c .entry)
-
   -- a term that is settled
   pub built-settled : (i : ℕ) → i < terms s → (ms : List Meaning) (array : List ℕ) → HeldTerms ms array → settled s i array ≡ true → built s i ms ≡ ([], ms)
   unfolding built buildTerm buildEntry settled meantBy

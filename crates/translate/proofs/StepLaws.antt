@@ -2,7 +2,7 @@
 use mathlib.Core.Path.{_≡_, refl, sym, _∙_}
 use mathlib.Core.Logic.{_⊎_, inl, inr}
 use mathlib.Core.List.{List, [], _∷_, _++_, map, append-nil, append-assoc}
-use Prim.Native.Nat.{ℕ, zero, suc, _+_, _-_, _*_, _<_, _≤_}
+use Prim.Native.Nat.{ℕ, zero, suc, _+_, _*_, _<_, _≤_}
 use native.Mathlib.Omega.{arith}
 use lib.ListN.{length}
 use Rattle.answers.specs.Ladder.{least}
@@ -21,7 +21,7 @@ use Rattle.rendering.specs.Translation.{buildEach}
 use Rattle.decoded.specs.Table.{actOf}
 use Rattle.registers.specs.Held.{registerIn}
 use Rattle.translate.specs.Stepwise.{built, after, operandsBuilt, stepBound}
-use Rattle.translate.specs.Making.{stateBytes, stepBytes}
+use Rattle.translate.specs.Making.{stateBytes, stepStatedBytes}
 use Rattle.decoded.proofs.Tabled.{step-as, operand-there}
 use Rattle.translate.proofs.BuiltLaws.{two-after}
 
@@ -110,8 +110,8 @@ module _ (s : List ℕ) (k : ℕ) where
   -- ── Its statements ──
 
   pub step-bytes : (symbols array : List ℕ) (registers op p q x y : ℕ) → op ≡ code s 1 (stepsAt s) k → p ≡ registerIn s (stepField s k 0) symbols array registers
-      → q ≡ registerIn s (stepField s k 1) symbols array registers → x ≡ stepField s k 2 → y ≡ stepField s k 3 → stepBytes s k symbols array registers ≡ stateBytes op p q x y
-  unfolding stepBytes
+      → q ≡ registerIn s (stepField s k 1) symbols array registers → x ≡ stepField s k 2 → y ≡ stepField s k 3 → stepStatedBytes s k symbols array registers ≡ stateBytes op p q x y
+  unfolding stepStatedBytes
   step-bytes symbols array registers op p q x y a b c d e = rw (a, b, c, d, e)
 
 pub state-none : (op p q x y : ℕ) → 6 ≤ op → stateBytes op p q x y ≡ []

@@ -24,7 +24,7 @@ use Rattle.registers.specs.Held.{registerAt, Held, HeldSymbols, HeldTerms, regi
 use Rattle.registers.proofs.HeldLaws.{symbols-kept}
 use Rattle.registers.proofs.RegisterLaws.{register-right}
 use Rattle.translate.specs.Stepwise.{Making, after, operandsBuilt, stepStated, stepBound, stepMade}
-use Rattle.translate.specs.Making.{Ready, Done, stateBytes, stepBytes}
+use Rattle.translate.specs.Making.{Ready, Done, stateBytes, stepStatedBytes}
 use Rattle.decoded.proofs.Tabled.{step-as, step-known}
 use Rattle.statement_counts.proofs.Counts.{few-due}
 use Rattle.translate.proofs.StepLaws.{first-there, second-there}
@@ -36,17 +36,17 @@ unfolding stepStated
 stated-of s k op c ns = rw (step-as s k op c)
 
 bytes-of : (s : List ℕ) (k op : ℕ) → code s 1 (stepsAt s) k ≡ op → (symbols array : List ℕ) (registers : ℕ)
-    → stepBytes s k symbols array registers ≡ stateBytes op (registerIn s (stepField s k 0) symbols array registers) (registerIn s (stepField s k 1) symbols array registers) (stepField s k 2) (stepField s k 3)
-unfolding stepBytes
+    → stepStatedBytes s k symbols array registers ≡ stateBytes op (registerIn s (stepField s k 0) symbols array registers) (registerIn s (stepField s k 1) symbols array registers) (stepField s k 2) (stepField s k 3)
+unfolding stepStatedBytes
 bytes-of s k op c symbols array registers = rw c
 
 module _ (s : List ℕ) (e : least (tableRungs s) ≡ Pass) (k : ℕ) (h : k < steps s) where
   -- what the code writes are the step's statements
-  pub step-right : (ns : List Meaning) {symbols array : List ℕ} {registers : ℕ} → Held ns symbols array registers → stepBytes s k symbols array registers ≡ statementsBytes (stepStated s k ns)
+  pub step-right : (ns : List Meaning) {symbols array : List ℕ} {registers : ℕ} → Held ns symbols array registers → stepStatedBytes s k symbols array registers ≡ statementsBytes (stepStated s k ns)
   unfolding stated duesOf mapAct actOf statementBytes halfOp joined stateBytes registerAt meaningOf
   step-right ns {symbols} {array} {registers} t = by-op (code s 1 (stepsAt s) k) refl (step-known s e k h)
     where
-      by-op : (op : ℕ) → code s 1 (stepsAt s) k ≡ op → op < 6 → stepBytes s k symbols array registers ≡ statementsBytes (stepStated s k ns)
+      by-op : (op : ℕ) → code s 1 (stepsAt s) k ≡ op → op < 6 → stepStatedBytes s k symbols array registers ≡ statementsBytes (stepStated s k ns)
       by-op zero c u = rw (stated-of s k 0 c ns, bytes-of s k 0 c symbols array registers, register-right s e (stepField s k 0) (first-there s k e h 0 c (omega arith) (λ z. absurd (omega arith))) ns t, register-right s e (stepField s k 1) (second-there s k e h 0 c (omega arith) (λ z. absurd (omega arith)) (λ z. absurd (omega arith)) (λ z. absurd (omega arith))) ns t)
       by-op (suc zero) c u = rw (stated-of s k 1 c ns, bytes-of s k 1 c symbols array registers, register-right s e (stepField s k 0) (first-there s k e h 1 c (omega arith) (λ z. absurd (omega arith))) ns t)
       by-op (suc (suc zero)) c u = rw (stated-of s k 2 c ns, bytes-of s k 2 c symbols array registers)
@@ -86,17 +86,17 @@ module _ (s : List ℕ) (e : least (tableRungs s) ≡ Pass) (k : ℕ) (h : k < s
       pub operands-fit : (registers + a ≤ 224) × (at ≤ length o)
       operands-fit = done-fits ms p operands-ready d
 
-      pub states-room : length (stepBytes s k symbols array₁ (registers + a)) ≤ length (take (length o - at) (drop at o))
+      pub states-room : length (stepStatedBytes s k symbols array₁ (registers + a)) ≤ length (take (length o - at) (drop at o))
       states-room = rw (step-right (operandsBuilt s k ms .1) (d .holds), bytes-length (stepStated s k (operandsBuilt s k ms .1))) (states-ready .room)
 
       -- one statement, or two
-      pub few : (b : ℕ) → 4 * b ≡ length (stepBytes s k symbols array₁ (registers + a)) → b ≤ 2
+      pub few : (b : ℕ) → 4 * b ≡ length (stepStatedBytes s k symbols array₁ (registers + a)) → b ≤ 2
       unfolding stepStated
       few b c =
           let ns = operandsBuilt s k ms .1 in
           omega (arith, c, ap length (step-right ns (d .holds)), bytes-length (stepStated s k ns), length-map (duesOf signature1 halves (stepAt s k)) (stated signature1 (entriesOf s) ns), few-due (stepAt s k))
 
-      pub step-done : {symbols′ ys : List ℕ} (b : ℕ) {registers′ : ℕ} → 4 * b ≡ length (stepBytes s k symbols array₁ (registers + a)) → ys ≡ over (stepBytes s k symbols array₁ (registers + a)) (take (length o - at) (drop at o))
+      pub step-done : {symbols′ ys : List ℕ} (b : ℕ) {registers′ : ℕ} → 4 * b ≡ length (stepStatedBytes s k symbols array₁ (registers + a)) → ys ≡ over (stepStatedBytes s k symbols array₁ (registers + a)) (take (length o - at) (drop at o))
           → HeldSymbols (stepBound s k (operandsBuilt s k ms .1)) symbols′ → registers′ ≡ length (stepBound s k (operandsBuilt s k ms .1))
           → Done (stepMade s k ms) symbols′ array₁ registers′ out (putMid at (length o - at) o ys) (a + b)
       step-done {symbols′} {ys} b {registers′} c w t n =

@@ -55,7 +55,7 @@ stateBytes (suc (suc (suc (suc (suc zero))))) p q x y = 6 ∷ p ∷ q ∷ x ∷ 
 stateBytes (suc (suc (suc (suc (suc (suc op)))))) p q x y = []
 
 -- the statements of step k
-unfoldable pub stepBytes : List ℕ → ℕ → List ℕ → List ℕ → ℕ → List ℕ
-stepBytes s k symbols terms registers =
+unfoldable pub stepStatedBytes : List ℕ → ℕ → List ℕ → List ℕ → ℕ → List ℕ
+stepStatedBytes s k symbols terms registers =
     stateBytes (code s 1 (stepsAt s) k) (registerIn s (stepField s k 0) symbols terms registers) (registerIn s (stepField s k 1) symbols terms registers)
     (stepField s k 2) (stepField s k 3)

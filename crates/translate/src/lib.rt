@@ -18,7 +18,7 @@ ghost use Rattle.buffers.specs.Over.{over};
 ghost use Rattle.decoded_list.specs.Bytes.{statementsBytes};
 ghost use Rattle.registers.specs.Held.{atStart, Noted};
 ghost use Rattle.translate.specs.Stepwise.{built, after, operandsBuilt, stepMade, stepsMade, wroteIf};
-ghost use Rattle.translate.specs.Making.{Ready, SomeReady, Makes, BindsStep, makeBytes, stepBytes};
+ghost use Rattle.translate.specs.Making.{Ready, SomeReady, Makes, BindsStep, makeBytes, stepStatedBytes};
 
 // What a step adds: its statements, and the registers that are given after it.
 pub struct Added {
@@ -146,9 +146,9 @@ fn state_step(
     registers: u8,
     out: &mut [u8],
 ) -> u8
-    requires { ⌜ length (stepBytes (now s) k (now symbols) (now terms) registers) ≤ length (now out) ⌝ }
-    ensures counted { λ r. ⌜ 4 * r ≡ length (stepBytes (now (s .entry)) k (now (symbols .entry)) (now (terms .entry)) registers) ⌝ }
-    ensures written { λ _. ⌜ now (out .exit) ≡ over (stepBytes (now (s .entry)) k (now (symbols .entry)) (now (terms .entry)) registers) (now (out .entry)) ⌝ }
+    requires { ⌜ length (stepStatedBytes (now s) k (now symbols) (now terms) registers) ≤ length (now out) ⌝ }
+    ensures counted { λ r. ⌜ 4 * r ≡ length (stepStatedBytes (now (s .entry)) k (now (symbols .entry)) (now (terms .entry)) registers) ⌝ }
+    ensures written { λ _. ⌜ now (out .exit) ≡ over (stepStatedBytes (now (s .entry)) k (now (symbols .entry)) (now (terms .entry)) registers) (now (out .entry)) ⌝ }
 {
     let op = table_layout::step_code(s, k);
     let a = table_layout::step_field(s, k, 0);

@@ -14,8 +14,8 @@ use Rattle.buffers.proofs.OverLaws.{over-none, over-fits, over-lent, lent-lengt
 use Rattle.calculus.specs.Figure2.{Env}
 use Rattle.calculus.specs.Version1.{signature1}
 use Rattle.slots.specs.Slots.{Holds}
-use Rattle.decoded_list.specs.Bytes.{typeBytes, typesBytes}
-use Rattle.type_lists.specs.Lists.{typesTo, TypeIs, SizeIs, TypePut, TypesPut}
+use Rattle.decoded_list.specs.Bytes.{typeBytes, typesBytes, typesTo}
+use Rattle.type_lists.specs.Lists.{TypeIs, SizeIs, TypePut, TypesPut}
 
 -- the bytes of one type more
 types-more : (Γ : Env signature1) (x : ℕ) → typesBytes (typesTo Γ (x + 1)) ≡ typesBytes (typesTo Γ x) ++ typeBytes (Γ x)

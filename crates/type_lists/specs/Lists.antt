@@ -3,17 +3,12 @@ use mathlib.Core.Path.{_≡_}
 use mathlib.Core.List.{List}
 use Prim.Native.Nat.{ℕ, _*_, _≤_, _<_}
 use lib.ListN.{length}
-use Rattle.entries.specs.Tiling.{listed}
-use Rattle.types.specs.Version1.{T, bytes}
+use Rattle.types.specs.Version1.{bytes}
 use Rattle.buffers.specs.Over.{over}
 use Rattle.calculus.specs.Figure2.{Env}
 use Rattle.calculus.specs.Version1.{signature1}
 use Rattle.slots.specs.Slots.{Holds}
-use Rattle.decoded_list.specs.Bytes.{typeBytes, typesBytes}
-
--- the types of symbols 0 to n, without n
-abbrev pub typesTo : Env signature1 → ℕ → List T
-typesTo Γ n = listed Γ 0 n
+use Rattle.decoded_list.specs.Bytes.{typesTo, typeBytes, typesBytes}
 
 -- r is the type of slot x
 pub record TypeIs (w : List ℕ) (x : ℕ) (r : List ℕ) : Type 0 where

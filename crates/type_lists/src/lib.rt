@@ -7,7 +7,7 @@ ghost use Rattle.type_lists.specs.Lists.{TypeIs, SizeIs, TypePut, TypesP
 pub fn slot_type<'a>(work: &'a [u8], x: u8) -> &'a [u8]
     ensures { λ r. ⌜ TypeIs (now (work .entry)) x (now r) ⌝ }
 {
-    let at = base::wide(x) * 129;
+    let at = slots::slot_at(x);
     let e = at + 129;
     if work.len() < e {
         return &work[0..0];

@@ -9,7 +9,7 @@ use native.Mathlib.Numerals.{add-one}
 use lib.ListN.{length, take, drop, getD, getElem?}
 use lib.Seq.{take-all, take-suc}
 use Rattle.base.specs.Bytes.{byte}
-use Rattle.answers.specs.Ladder.{least}
+use Rattle.answers.specs.Ladder.{refusal, least}
 use Rattle.answers.specs.declared.Check.{Check}
 use Rattle.answers.specs.declared.Check.the-variants.{Pass, Refuse}
 use Rattle.list.specs.Layout.{symbols, typeAt}
@@ -26,8 +26,9 @@ use Rattle.rendering.specs.Lists.{differ-at}
 use Rattle.decoded.proofs.Listed.{listed-all-at}
 use Rattle.decoded_list.specs.Decoded.{Decoded}
 use Rattle.decoded_list.proofs.Once.{decoded-symbols, decoded-body}
+use Rattle.decoded_list.specs.Bytes.{typesTo}
 use Rattle.slots.specs.Slots.{Holds}
-use Rattle.type_lists.specs.Lists.{typesTo, TypeIs}
+use Rattle.type_lists.specs.Lists.{TypeIs}
 use Rattle.type_match.specs.Alike.{alike, unlike, BodyIs, Matched}
 
 -- ── Elements of lists ──
@@ -59,14 +60,14 @@ none-yet l w n = record { same = λ Γ free h m e d. refl }
 
 module _ (l w : List ℕ) (n i : ℕ) (p : SoFar l w n i) where
   -- the list has no type i
-  pub too-few : i < n → symbols l ≤ i → (r : Check) → r ≡ Refuse (record { number = 11; file = 1; place = i }) → Matched l w n r
+  pub too-few : i < n → symbols l ≤ i → (r : Check) → r ≡ Refuse (refusal 11 1 i) → Matched l w n r
   too-few h m r q = rw q (record {
     matched = λ Γ free k f e d. unlike (differ-at (p .same Γ free k f e d) (λ z.
         Option·none-ne-some _ (sym (past (d .types) i (omega (arith, decoded-symbols l d))) ∙ z ∙ there (typesTo Γ n) i (omega (arith, listed-length Γ 0 n)))));
   })
 
   -- the list has types beyond
-  pub too-many : n ≤ i → i ≤ n → n < symbols l → (r : Check) → r ≡ Refuse (record { number = 11; file = 1; place = n }) → Matched l w n r
+  pub too-many : n ≤ i → i ≤ n → n < symbols l → (r : Check) → r ≡ Refuse (refusal 11 1 n) → Matched l w n r
   too-many h g m r q =
       let s : i ≡ n = omega arith in
       rw q (record {
@@ -101,7 +102,7 @@ module _ (l w : List ℕ) (n i : ℕ) (p : SoFar l w n i) where
     }
 
     -- they differ
-    pub one-differs : ¬ (u ≡ v) → (r : Check) → r ≡ Refuse (record { number = 11; file = 1; place = i }) → Matched l w n r
+    pub one-differs : ¬ (u ≡ v) → (r : Check) → r ≡ Refuse (refusal 11 1 i) → Matched l w n r
     one-differs q r j = rw j (record {
       matched = λ Γ free k f e d. unlike (differ-at (p .same Γ free k f e d) (λ z.
           let y : some (getD (d .types) i Message) ≡ some (getD (typesTo Γ n) i Message) = sym (there (d .types) i (omega (arith, decoded-symbols l d))) ∙ z ∙ there (typesTo Γ n) i (omega (arith, listed-length Γ 0 n)) in

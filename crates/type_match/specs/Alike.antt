@@ -4,7 +4,7 @@ use mathlib.Core.Option.{some}
 use mathlib.Core.List.{List}
 use Prim.Native.Nat.{ℕ, _≤_}
 use lib.ListN.{length}
-use Rattle.answers.specs.Ladder.{least}
+use Rattle.answers.specs.Ladder.{refusal, least}
 use Rattle.answers.specs.declared.Check.{Check}
 use Rattle.answers.specs.declared.Check.the-variants.{Pass, Refuse}
 use Rattle.list.specs.Layout.{bodyAt, pastType}
@@ -14,13 +14,13 @@ use Rattle.calculus.specs.Figure2.{Env}
 use Rattle.calculus.specs.Version1.{signature1}
 use Rattle.rendering.specs.Lists.{Differ}
 use Rattle.decoded_list.specs.Decoded.{Decoded}
+use Rattle.decoded_list.specs.Bytes.{typesTo}
 use Rattle.slots.specs.Slots.{Holds}
-use Rattle.type_lists.specs.Lists.{typesTo}
 
 -- the list's types are the widest ones; or 11 at the first place at which they differ, or at which the shorter one ends
 pub data Alike (As Bs : List T) : Check → Type 0 where
   alike : As ≡ Bs → Alike As Bs Pass
-  unlike : {i : ℕ} → Differ As Bs (some i) → Alike As Bs (Refuse (record { number = 11; file = 1; place = i }))
+  unlike : {i : ℕ} → Differ As Bs (some i) → Alike As Bs (Refuse (refusal 11 1 i))
 
 -- r is the body of the type at p, if it lies inside the list
 pub record BodyIs (l : List ℕ) (p : ℕ) (r : List ℕ) : Type 0 where

@@ -4,7 +4,7 @@ use mathlib.Core.List.{List}
 use Prim.Native.Nat.{ℕ, _≤_, _<_}
 use native.Mathlib.Omega.{arith}
 use lib.ListN.{length}
-use Rattle.answers.specs.Ladder.{least}
+use Rattle.answers.specs.Ladder.{refusal, least}
 use Rattle.answers.specs.declared.Refusal.{Refusal}
 use Rattle.answers.specs.declared.Check.{Check}
 use Rattle.answers.specs.declared.Check.the-variants.{Pass, Refuse}
@@ -17,12 +17,13 @@ use Rattle.calculus.specs.Typing.{widest, untyped}
 use Rattle.calculus.specs.Version1.{signature1}
 use Rattle.calculus.proofs.Version1Laws.{one-answer1}
 use Rattle.decoded.specs.Table.{tableOf}
-use Rattle.decoded_list.specs.Bytes.{typesBytes}
+use Rattle.decoded_list.specs.Bytes.{typesBytes, typesTo}
 use Rattle.slots.specs.Slots.{Holds}
-use Rattle.type_lists.specs.Lists.{typesTo, SizeIs, TypesPut}
-use Rattle.typing.specs.Answers.{TableInferred}
+use Rattle.type_lists.specs.Lists.{SizeIs, TypesPut}
+use Rattle.typing.specs.Answers.{typingCheck, TableInferred}
+use Rattle.typing.specs.declared.Typing.{Typing}
 use Rattle.typing.specs.declared.Typing.the-variants.{Widest, NoTyping}
-use Rattle.type_service.specs.Services.{refusal, IsWidest, TableRefused, faulty, no-typing, SlotsTyped, SlotsPut, Room, enough, short, Answered, table-refused, too-short, written, typesFile}
+use Rattle.type_service.specs.Services.{IsWidest, TableRefused, faulty, no-typing, SlotsTyped, SlotsPut, RoomChecked, enough, short, Answered, table-refused, too-short, written, typesFile}
 
 -- ── Numbers 1 to 10 ──
 
@@ -30,11 +31,9 @@ pub slots-faulty : (s w o : List ℕ) (x : Refusal) (a : Check) → a ≡ least 
 slots-faulty s w o x a e q = rw q (record { typed = λ l. faulty (sym e ∙ q) })
 
 module _ (s w o : List ℕ) (a : Check) (e : a ≡ least (tableRungs s)) (q : a ≡ Pass) where
-  pub slots-untyped : (k : ℕ) (r : Check) → TableInferred s w o (NoTyping k) → r ≡ Refuse (refusal 10 0 k) → SlotsPut s w o r
-  slots-untyped k r i j = rw j (record { typed = λ l. no-typing (sym e ∙ q) (i .answer l (sym e ∙ q)) })
-
-  pub slots-widest : TableInferred s w o Widest → SlotsPut s w o Pass
-  slots-widest i = record { typed = λ l. let (Γ, h, t) = i .answer l (sym e ∙ q) in (Γ, h, record { sound = sym e ∙ q; typing = t }) }
+  pub slots-inferred : (a : Typing) (r : Check) → TableInferred s w o a → r ≡ typingCheck a → SlotsPut s w o r
+  slots-inferred Widest r i j = rw j (record { typed = λ l. let (Γ, h, t) = i .answer l (sym e ∙ q) in (Γ, h, record { sound = sym e ∙ q; typing = t }) })
+  slots-inferred (NoTyping k) r i j = rw j (record { typed = λ l. no-typing (sym e ∙ q) (i .answer l (sym e ∙ q)) refl })
 
 -- ── The slots of a table that passes ──
 
@@ -64,10 +63,10 @@ module _ (s o : List ℕ) (n : ℕ) (k : Typed s o n) where
 
 -- ── Number 15 ──
 
-pub room-short : (need room : ℕ) (r : Check) → room < need → r ≡ Refuse (refusal 15 3 need) → Room need room r
+pub room-short : (need room : ℕ) (r : Check) → room < need → r ≡ Refuse (refusal 15 3 need) → RoomChecked need room r
 room-short need room r l q = rw q (short l)
 
-pub room-left : (need room : ℕ) (r : Check) → Room need room r → r ≡ Pass → need ≤ room
+pub room-left : (need room : ℕ) (r : Check) → RoomChecked need room r → r ≡ Pass → need ≤ room
 room-left need room r (enough l) q = l
 room-left need room r (short l) q = let y : _≡_ {A = ℕ} 0 1 = cc in absurd (omega arith)
 
@@ -78,17 +77,18 @@ same-widest s Γ Δ t u = let e : widest Γ ≡ widest Δ = one-answer1 (tableOf
 
 pub not-both : (s : List ℕ) (Γ : Env signature1) (x : Refusal) → IsWidest s Γ → TableRefused s x → ⊥
 not-both s Γ x t (faulty e) = let q = t .sound in let y : _≡_ {A = ℕ} 0 1 = cc in absurd (omega arith)
-not-both s Γ x t (no-typing {k = k} p u) =
+not-both s Γ x t (no-typing {k = k} p u n) =
     let e : widest Γ ≡ untyped k = one-answer1 (tableOf s) (widest Γ) (untyped k) (t .typing) u in
     let y : _≡_ {A = ℕ} 0 1 = cc in absurd (omega arith)
 
 pub refused-once : (s : List ℕ) (x y : Refusal) → TableRefused s x → TableRefused s y → x ≡ y
 refused-once s x y (faulty e) (faulty f) = cc
-refused-once s x y (faulty e) (no-typing p u) = let y : _≡_ {A = ℕ} 0 1 = cc in absurd (omega arith)
-refused-once s x y (no-typing p u) (faulty e) = let y : _≡_ {A = ℕ} 0 1 = cc in absurd (omega arith)
-refused-once s x y (no-typing {k = i} p u) (no-typing {k = k} q v) =
+refused-once s x y (faulty e) (no-typing p u n) = let y : _≡_ {A = ℕ} 0 1 = cc in absurd (omega arith)
+refused-once s x y (no-typing p u n) (faulty e) = let y : _≡_ {A = ℕ} 0 1 = cc in absurd (omega arith)
+refused-once s x y (no-typing {k = i} p u n) (no-typing {k = k} q v m) =
     let e : untyped i ≡ untyped k = one-answer1 (tableOf s) (untyped i) (untyped k) u v in
-    let f : i ≡ k = cc in rw f refl
+    let f : i ≡ k = cc in
+    let g : Refuse x ≡ Refuse y = sym n ∙ ap (λ (j : ℕ). typingCheck (NoTyping j)) f ∙ m in cc
 
 -- ── The answer ──
 
@@ -99,16 +99,16 @@ module _ (file : Env signature1 → List ℕ) (s z : List ℕ) where
 
   module _ (Γ : Env signature1) (t : IsWidest s Γ) (need : ℕ) (n : need ≡ length (file Γ)) where
     -- number 15 is
-    pub no-room : (b : Check) (x : Refusal) → Room need (length z) b → b ≡ Refuse x → Answered file s z z b 0
+    pub no-room : (b : Check) (x : Refusal) → RoomChecked need (length z) b → b ≡ Refuse x → Answered file s z z b 0
     no-room b x (enough l) q = let y : _≡_ {A = ℕ} 0 1 = cc in absurd (omega arith)
     no-room b x (short l) q = rw n (too-short t (rw n at l))
 
     -- there is room
-    pub room-for : (b : Check) → Room need (length z) b → b ≡ Pass → length (file Γ) ≤ length z
+    pub room-for : (b : Check) → RoomChecked need (length z) b → b ≡ Pass → length (file Γ) ≤ length z
     room-for b r q = rw n at (room-left need (length z) b r q)
 
     -- the file is written
-    pub all-written : (b : Check) (o : List ℕ) → Room need (length z) b → b ≡ Pass → o ≡ over (file Γ) z → Answered file s z o Pass need
+    pub all-written : (b : Check) (o : List ℕ) → RoomChecked need (length z) b → b ≡ Pass → o ≡ over (file Γ) z → Answered file s z o Pass need
     all-written b o r q w = rw (w, n) (written t (room-for b r q))
 
   -- ── No second answer ──

@@ -4,7 +4,7 @@ use mathlib.Core.Path.{_≡_}
 use mathlib.Core.List.{List}
 use Prim.Native.Nat.{ℕ, _≤_, _<_}
 use lib.ListN.{length}
-use Rattle.answers.specs.Ladder.{least}
+use Rattle.answers.specs.Ladder.{refusal, least}
 use Rattle.answers.specs.declared.Refusal.{Refusal}
 use Rattle.answers.specs.declared.Check.{Check}
 use Rattle.answers.specs.declared.Check.the-variants.{Pass, Refuse}
@@ -15,23 +15,20 @@ use Rattle.calculus.specs.Figure2.{Env}
 use Rattle.calculus.specs.Typing.{widest, untyped, AnswerIs}
 use Rattle.calculus.specs.Version1.{signature1}
 use Rattle.decoded.specs.Table.{tableOf}
-use Rattle.decoded_list.specs.Bytes.{typesBytes}
+use Rattle.decoded_list.specs.Bytes.{typesBytes, typesTo}
 use Rattle.slots.specs.Slots.{Holds}
-use Rattle.type_lists.specs.Lists.{typesTo}
-
--- a refusal: number, file, place
-abbrev pub refusal : ℕ → ℕ → ℕ → Refusal
-refusal n f p = record { number = n; file = f; place = p }
+use Rattle.typing.specs.Answers.{typingCheck}
+use Rattle.typing.specs.declared.Typing.the-variants.{NoTyping}
 
 -- Γ is the widest typing of a table without faults 1 to 9
 pub record IsWidest (s : List ℕ) (Γ : Env signature1) : Type 0 where
   pub sound : least (tableRungs s) ≡ Pass
   pub typing : AnswerIs signature1 (tableOf s) (widest Γ)
 
--- a table is refused: the least of its faults 1 to 9; or there is no typing, number 10 with its place
+-- a table is refused: the least of its faults 1 to 9; or there is no typing, which `typingCheck` makes number 10 with its place
 pub data TableRefused (s : List ℕ) : Refusal → Type 0 where
   faulty : {x : Refusal} → least (tableRungs s) ≡ Refuse x → TableRefused s x
-  no-typing : {k : ℕ} → least (tableRungs s) ≡ Pass → AnswerIs signature1 (tableOf s) (untyped k) → TableRefused s (refusal 10 0 k)
+  no-typing : {k : ℕ} {x : Refusal} → least (tableRungs s) ≡ Pass → AnswerIs signature1 (tableOf s) (untyped k) → typingCheck (NoTyping k) ≡ Refuse x → TableRefused s x
 
 -- numbers 1 to 10: the table is refused, or the slots hold its widest types
 abbrev pub SlotsTyped : List ℕ → List ℕ → Check → Type 0
@@ -43,9 +40,9 @@ pub record SlotsPut (s w o : List ℕ) (r : Check) : Type 0 where
   pub typed : length w ≡ 12384 → SlotsTyped s o r
 
 -- room for the bytes needed; or number 15
-pub data Room (need room : ℕ) : Check → Type 0 where
-  enough : need ≤ room → Room need room Pass
-  short : room < need → Room need room (Refuse (refusal 15 3 need))
+pub data RoomChecked (need room : ℕ) : Check → Type 0 where
+  enough : need ≤ room → RoomChecked need room Pass
+  short : room < need → RoomChecked need room (Refuse (refusal 15 3 need))
 
 -- a service that writes a file made of the widest types: a refusal leaves the lent buffer z as it was; else the file stands at its
 -- start, bytes beyond stay, and the count is the file's length

@@ -3,7 +3,7 @@
 use answers::Check;
 use typing::Typing;
 ghost use lib.ListN.{length};
-ghost use Rattle.type_service.specs.Services.{SlotsPut, Room, Answered, typesFile};
+ghost use Rattle.type_service.specs.Services.{SlotsPut, RoomChecked, Answered, typesFile};
 
 // What a service that writes a file answers: a refusal, or the number of bytes written.
 pub struct Written {
@@ -27,7 +27,7 @@ pub fn type_slots(table: &[u8], work: &mut [u8]) -> Check
 
 // Number 15: a lent buffer is too short for the bytes needed.
 pub fn check_room(out: &[u8], need: usize) -> Check
-    ensures { λ r. ⌜ Room need (length (now (out .entry))) r ⌝ }
+    ensures { λ r. ⌜ RoomChecked need (length (now (out .entry))) r ⌝ }
 {
     if need <= out.len() {
         return Check::Pass;

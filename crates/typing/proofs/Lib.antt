@@ -1,4 +1,4 @@
--- Laws of `typing`, for the proofs of the crates above.
+-- Laws of `typing`.
 pub mod MarkLaws
 pub mod KeyLaws
 pub mod WantLaws

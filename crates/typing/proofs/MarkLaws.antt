@@ -13,6 +13,7 @@ use Rattle.marks.specs.Put.{Put, blank}
 use Rattle.codes.specs.Rows.{cell}
 use Rattle.entries.specs.Fields.{code, role}
 use Rattle.table_layout.specs.Layout.{terms, stepsAt, stepField}
+use Rattle.table_naming.specs.Naming.{useAt}
 use Rattle.calculus.specs.Terms.{operands}
 use Rattle.calculus.specs.Tables.{leafEntry}
 use Rattle.calculus.specs.Inference.{mark, marks, spread, down}
@@ -20,7 +21,7 @@ use Rattle.calculus.specs.Version1.{signature1}
 use Rattle.decoded.specs.Table.{actOf, stepAt}
 use Rattle.slots.specs.Terms.{codeAt, partAt, entry, InRange}
 use Rattle.slots.proofs.TermLaws.{entry-symbol, entry-pair, entry-seal}
-use Rattle.typing.specs.Marking.{usesAt, Bits, PartsPut, DownPut, StepMarked}
+use Rattle.typing.specs.Marking.{Bits, PartsPut, DownPut, StepMarked}
 
 -- ── Marks put one after another ──
 
@@ -140,8 +141,8 @@ module _ (s : List ℕ) (k : ℕ) where
   operands-are (suc (suc (suc (suc (suc zero))))) h u = rw (eqb-swap (stepField s k 0) u, eqb-swap (stepField s k 1) u) (two-marks (eqb u (stepField s k 0)) (eqb u (stepField s k 1)))
   operands-are (suc (suc (suc (suc (suc (suc op)))))) h u = absurd (omega arith)
 
-  pub step-marked : (z o₁ o₂ o : List ℕ) → z ≡ blank → Put z o₁ (usesAt s k 1) 1 → Put o₁ o₂ (usesAt s k 0) 1 → DownPut s o₂ o → StepMarked s k o
-  unfolding stepAt role marks
+  pub step-marked : (z o₁ o₂ o : List ℕ) → z ≡ blank → Put z o₁ (useAt s k 1) 1 → Put o₁ o₂ (useAt s k 0) 1 → DownPut s o₂ o → StepMarked s k o
+  unfolding stepAt role marks useAt
   step-marked z o₁ o₂ o e p q d = record {
     marked = λ r h.
         let b : Bits z (marks []) = rw e bits-blank in

@@ -3,8 +3,9 @@ use mathlib.Core.Path.{_≡_}
 use mathlib.Core.List.{List}
 use Prim.Native.Nat.{ℕ}
 use lib.ListN.{length}
-use Rattle.answers.specs.Ladder.{least}
-use Rattle.answers.specs.declared.Check.the-variants.{Pass}
+use Rattle.answers.specs.Ladder.{refusal, least}
+use Rattle.answers.specs.declared.Check.{Check}
+use Rattle.answers.specs.declared.Check.the-variants.{Pass, Refuse}
 use Rattle.table.specs.Faults.{tableRungs}
 use Rattle.calculus.specs.Figure2.{Env}
 use Rattle.calculus.specs.Typing.{widest, untyped, AnswerIs}
@@ -18,6 +19,11 @@ use Rattle.typing.specs.declared.Typing.the-variants.{Widest, NoTyping}
 abbrev pub TypingIs : List ℕ → List ℕ → Typing → Type 0
 TypingIs s o Widest = (Γ : Env signature1) × Holds o Γ × AnswerIs signature1 (tableOf s) (widest Γ)
 TypingIs s o (NoTyping k) = AnswerIs signature1 (tableOf s) (untyped k)
+
+-- document 01's number of the inference's answer, with file and place
+abbrev pub typingCheck : Typing → Check
+typingCheck Widest = Pass
+typingCheck (NoTyping k) = Refuse (refusal 10 0 k)
 
 -- so it is for a table without faults 1 to 9, if the lent array w is 96 slots of 129 bytes, whatever they held
 pub record TableInferred (s w o : List ℕ) (r : Typing) : Type 0 where

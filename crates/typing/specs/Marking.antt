@@ -5,17 +5,11 @@ use mathlib.Core.List.{List}
 use Prim.Native.Nat.{ℕ, _<_}
 use lib.Dec.{eqb}
 use lib.ListN.{length, getD}
-use Rattle.base.specs.Pick.{both}
-use Rattle.codes.specs.Rows.{termRole as stepTermRole}
-use Rattle.table_layout.specs.Layout.{terms, steps, stepField, stepRole}
+use Rattle.table_layout.specs.Layout.{terms, steps}
 use Rattle.calculus.specs.Inference.{spread, down, standing}
 use Rattle.calculus.specs.Version1.{signature1}
 use Rattle.decoded.specs.Table.{stepAt}
 use Rattle.slots.specs.Terms.{entry, InRange}
-
--- field j of step k is term i
-abbrev pub usesAt : List ℕ → ℕ → ℕ → ℕ → Bool
-usesAt s k j i = both (eqb (stepRole s k j) stepTermRole) (eqb (stepField s k j) i)
 
 -- an array of 256 marks says which indexes are marked
 pub record Bits (l : List ℕ) (m : ℕ → Bool) : Type 0 where

@@ -4,8 +4,8 @@ use type_bytes::Lower;
 ghost use mathlib.Core.Path.{_≡_};
 ghost use Prim.Native.Nat.{_≤_};
 ghost use lib.ListN.{length};
-ghost use Rattle.marks.specs.Put.{Put, blank};
-ghost use Rattle.typing.specs.Marking.{usesAt, PartsPut, DownPut, StepMarked};
+ghost use Rattle.marks.specs.Put.{blank};
+ghost use Rattle.typing.specs.Marking.{PartsPut, DownPut, StepMarked};
 ghost use Rattle.typing.specs.Stages.{KeyPut, KeysPut, SlotPut, PairPut, CipherPut, SplitPut, OpenPut, WantsPut, StepPut, Inferred};
 ghost use Rattle.typing.specs.Answers.{TableInferred};
 
@@ -16,19 +16,6 @@ pub enum Typing {
 }
 
 // ── The terms that stand in a step ──
-
-// Marks the term in field j of step k, if it is one.
-fn mark_field(marks: &mut [u8; 256], table: &[u8], k: u8, j: u8)
-    ensures { λ _. ⌜ Put (now (marks .entry)) (now (marks .exit)) (usesAt (now (table .entry)) k j) 1 ⌝ }
-{
-    let role = table_layout::step_role(table, k, j);
-    marks::put(
-        marks,
-        role == codes::IN_TERM,
-        table_layout::step_field(table, k, j),
-        1,
-    );
-}
 
 // Marks the parts of term u, if it is marked.
 fn mark_parts(marks: &mut [u8; 256], table: &[u8], u: u8)
@@ -59,8 +46,8 @@ fn mark_step(marks: &mut [u8; 256], table: &[u8], k: u8)
     requires { ⌜ now marks ≡ blank ⌝ }
     ensures { λ _. ⌜ StepMarked (now (table .entry)) k (now (marks .exit)) ⌝ }
 {
-    mark_field(marks, table, k, 1);
-    mark_field(marks, table, k, 0);
+    table_naming::mark_use(marks, table, k, 1);
+    table_naming::mark_use(marks, table, k, 0);
     mark_down(marks, table);
 }
 
@@ -102,7 +89,7 @@ fn need_keys(work: &mut [u8], table: &[u8], marks: &[u8; 256]) -> bool
 fn put_slot(out: &mut [u8], work: &[u8], x: u8) -> usize
     ensures { λ r. ⌜ SlotPut (now (work .entry)) x (now (out .entry)) (now (out .exit)) r ⌝ }
 {
-    let at = base::wide(x) * 129;
+    let at = slots::slot_at(x);
     let e = at + 129;
     if work.len() < e {
         return 0;

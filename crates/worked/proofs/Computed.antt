@@ -4,7 +4,7 @@ use mathlib.Core.Bool.{Bool, true, false, _&&_}
 use mathlib.Core.List.{List, [], _∷_}
 use Prim.Native.Nat.{ℕ, _-_}
 use lib.ListN.{length}
-use Rattle.answers.specs.Ladder.{least}
+use Rattle.answers.specs.Ladder.{refusal, least}
 use Rattle.answers.specs.declared.Refusal.{Refusal}
 use Rattle.answers.specs.declared.Check.{Check}
 use Rattle.answers.specs.declared.Check.the-variants.{Pass, Refuse}
@@ -27,18 +27,15 @@ use Rattle.rendering.specs.Lists.{StatementList}
 use Rattle.running.specs.Values.{visible, index}
 use Rattle.running.specs.Acts.{numberOf, typed as byTypes, Result}
 use Rattle.running.specs.Demand3.{typesOf, said}
-use Rattle.decoded.specs.Table.{tableOf}
+use Rattle.decoded.specs.Table.{tableOf, freeCount, freeOf}
 use Rattle.decoded.specs.Values.{valuesOf}
-use Rattle.decoded_list.specs.Bytes.{listBytes}
+use Rattle.decoded_list.specs.Bytes.{listBytes, typesTo}
 use Rattle.decoded_list.specs.Statements.{statementsOf}
-use Rattle.compiled.specs.Compiled.{freeCount}
 use Rattle.value_table.specs.Values.{valueBytes}
 use Rattle.execution.specs.Messages.{messageBytes}
 use Rattle.machine.specs.Statements.{traceOf, runOf}
 use Rattle.machine.specs.declared.Ran.{Ran}
-use Rattle.starting.specs.Fourteen.{freeOf}
-use Rattle.type_lists.specs.Lists.{typesTo}
-use Rattle.type_service.specs.Services.{refusal, typesFile}
+use Rattle.type_service.specs.Services.{typesFile}
 use Rattle.compile_service.specs.Files.{listFile}
 use Rattle.judge_service.specs.Judged.{verdictCheck}
 use Rattle.run_service.specs.Read.{processOf}

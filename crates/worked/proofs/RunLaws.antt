@@ -24,15 +24,15 @@ use Rattle.running.specs.Values.{visible, index}
 use Rattle.running.specs.Acts.{Result, typed as byTypes}
 use Rattle.running.specs.Demand3.{Starts, starts-nil, starts-cons, typesOf, said}
 use Rattle.decoded.specs.Values.{valuesOf}
+use Rattle.decoded.specs.Table.{freeCount, freeOf}
 use Rattle.decoded_list.specs.Decoded.{Decoded}
 use Rattle.decoded_list.specs.Statements.{statementsOf}
-use Rattle.compiled.specs.Compiled.{freeCount}
+use Rattle.decoded_list.specs.Bytes.{typesTo}
 use Rattle.value_table.specs.Values.{valueBytes}
 use Rattle.execution.specs.Messages.{messageBytes}
 use Rattle.machine.specs.Statements.{runOf, Told, traceOf}
 use Rattle.machine.specs.declared.Ran.{Ran}
-use Rattle.starting.specs.Fourteen.{freeOf, Fourteen, starts}
-use Rattle.type_lists.specs.Lists.{typesTo}
+use Rattle.starting.specs.Fourteen.{Fourteen, starts}
 use Rattle.type_service.specs.Services.{IsWidest}
 use Rattle.run_service.specs.Runs.{valueNeed, messageNeed, Sound, RunAnswered, ran}
 use Rattle.run_service.specs.Read.{processOf}

@@ -20,12 +20,11 @@ use Rattle.rendering.specs.Rendering.{halves}
 use Rattle.rendering.specs.Judge.{judge}
 use Rattle.rendering.specs.Lists.{types-equal}
 use Rattle.rendering.proofs.JudgeLaws.{judge-is-exact}
-use Rattle.decoded.specs.Table.{tableOf}
+use Rattle.decoded.specs.Table.{tableOf, freeCount}
 use Rattle.decoded.proofs.Checked.{table-checked}
 use Rattle.decoded.proofs.Unlike.{terms-unrepeated}
 use Rattle.decoded_list.specs.Bytes.{listBytes}
 use Rattle.decoded_list.specs.Statements.{statementsOf}
-use Rattle.compiled.specs.Compiled.{freeCount}
 use Rattle.machine.specs.declared.Ran.{Ran}
 use Rattle.type_service.specs.Services as services
 use Rattle.type_service.specs.Services.{Answered, IsWidest, TableRefused, faulty, no-typing, typesFile}
@@ -52,7 +51,7 @@ typing-is t = by-check (least (tableRungs t)) refl
   where
     by-answer : (a : Answer signature1) → least (tableRungs t) ≡ Pass → AnswerIs signature1 (tableOf t) a → TypingIs t (inferred a)
     by-answer (widest Γ) e r = is-typed (record { sound = e; typing = r })
-    by-answer (untyped k) e r = is-refused (no-typing e r)
+    by-answer (untyped k) e r = is-refused (no-typing e r refl)
 
     by-check : (c : Check) → least (tableRungs t) ≡ c → TypingIs t (checked c (infer signature1 (tableOf t)))
     by-check Pass e = by-answer (infer signature1 (tableOf t)) e (right1 (tableOf t) (table-checked t e))

@@ -3,12 +3,12 @@ use mathlib.Core.List.{List, [], _∷_, _++_}
 use Prim.Native.Nat.{ℕ, _*_}
 use lib.ListN.{replicate}
 use Rattle.answers.specs.declared.Check.the-variants.{Pass, Refuse}
+use Rattle.answers.specs.Ladder.{refusal}
 use Rattle.calculus.specs.Terms.{atom, leaf, Value}
 use Rattle.calculus.specs.Scope.{All}
 use Rattle.calculus.specs.Version1.{signature1}
 use Rattle.running.specs.Acts.{sent, received, Logged, logged}
 use Rattle.machine.specs.declared.Ran.{Ran}
-use Rattle.type_service.specs.Services.{refusal}
 use Rattle.worked.specs.Examples.{Example, refusedTable, typed, compiled, judgedAs, ranAs, Holds}
 
 -- ── Tables: header, symbols, terms, steps ──

@@ -1,6 +1,6 @@
 -- `compile_service::compile` meets its contract. Assumes nothing.
 use denote.Ref.{now}
-use mathlib.Core.Path.{_≡_, refl}
+use mathlib.Core.Path.{_≡_}
 use mathlib.Core.List.{List}
 use Prim.Native.Nat.{ℕ, _+_, _-_, _*_, _≤_}
 use native.Mathlib.Omega.{arith}
@@ -16,7 +16,7 @@ use Rattle.decoded_list.specs.Bytes.{headerBytes}
 use Rattle.type_service.specs.Services.{typesFile}
 use Rattle.type_service.proofs.ServiceLaws.{Typed, typed, types-counted, types-written, passed-on, no-room, room-for, all-written}
 use Rattle.compile_service.specs.Files.{listFile}
-use Rattle.compile_service.proofs.FileLaws.{few-statements, need-is, room-header, length-header, types-fit, length-types, written-file}
+use Rattle.compile_service.proofs.FileLaws.{few-statements, need-is, Fits, room-header, length-header, types-fit, length-types, written-file}
 use borrow.Author.Needs.{needs}
 use Rattle.compile_service.proofs.compile.Statement.{statement}
 use Rattle.compile_service.proofs.compile.Tie as tie
@@ -47,18 +47,20 @@ module _ (c : tie.After-types-size) where
   few = omega (arith, counted, few-statements _ _ (slots .widest))
 
   needed : 8 + c .types-size .result + 4 * n ≡ length (listFile s (slots .Γ))
-  needed = need-is _ _ (slots .widest) _ _ _ _ z sized counted refl refl
+  needed = need-is _ _ _ _ sized counted
 
 -- number 15 is passed: the list has room
 module _ (c : tie.After-enum-told3) where
   abbrev tested : tie.After-types-size
   tested = c .before .before .before .before
 
-  room : length (listFile (s tested) (slots tested .Γ)) ≤ length (z tested)
-  room = room-for (listFile (s tested)) (s tested) (z tested) (slots tested .Γ) (slots tested .widest) _ (needed tested) _ (c .before .before .check-room .ensures) (c .enum-told3 .given .1)
-
-  eight : 8 ≤ length (z tested)
-  eight = room-header _ _ (slots tested .widest) _ _ _ _ (z tested) (sized tested) (counted tested) refl refl room
+  fits : Fits (s tested) (slots tested .Γ) (tested .types-size .result) (n tested) (z tested)
+  fits = record {
+    widest = slots tested .widest;
+    sized = sized tested;
+    counted = counted tested;
+    room = room-for (listFile (s tested)) (s tested) (z tested) (slots tested .Γ) (slots tested .widest) _ (needed tested) _ (c .before .before .check-room .ensures) (c .enum-told3 .given .1);
+  }
 
 -- the header is written
 module _ (c : tie.After-slice-known2) where
@@ -72,7 +74,7 @@ module _ (c : tie.After-slice-known2) where
   header = rw (slots begun .all) at (c .before .before .put-header .ensures)
 
   header-kept : length o₁ ≡ length (z begun)
-  header-kept = length-header _ _ (slots begun .widest) _ _ _ _ (z begun) (sized begun) (counted begun) refl refl (room (c .before .before .before .before)) _ header
+  header-kept = length-header (fits (c .before .before .before .before)) _ header
 
 -- the types are written
 module _ (c : tie.After-slice-known3) where
@@ -88,10 +90,10 @@ module _ (c : tie.After-slice-known3) where
   types : y₁ ≡ over (typesFile (s counting) (slots counting .Γ)) (take (length (o₁ headed) - 8) (drop 8 (o₁ headed)))
   types =
       types-written _ _ _ (slots counting) _ _ (c .before .before .put-types .ensures)
-      (types-fit _ _ (slots counting .widest) _ _ _ _ (z counting) (sized counting) (counted counting) refl refl (room (headed .before .before .before .before)) _ (header headed))
+      (types-fit (fits (headed .before .before .before .before)) _ (header headed))
 
   types-kept : length (putMid 8 (length (o₁ headed) - 8) (o₁ headed) y₁) ≡ length (z counting)
-  types-kept = length-types _ _ (slots counting .widest) _ _ _ _ (z counting) (sized counting) (counted counting) refl refl (room (headed .before .before .before .before)) _ (header headed) _ (c .before .before .put-types .kept .0) types
+  types-kept = length-types (fits (headed .before .before .before .before)) _ (header headed) _ (c .before .before .put-types .kept .0) types
 
 -- ── The needs ──
 
@@ -149,13 +151,13 @@ returns-2 c =
     no-room (listFile (s d)) (s d) (z d) (slots d .Γ) (slots d .widest) _ (needed d) _ _ (c .before .before .check-room .ensures) (c .enum-told4 .given .1)
 
 put-header-requires : tie.Need-put-header-requires
-put-header-requires c κs = (omega (arith, few (tested (c .before))), eight (c .before))
+put-header-requires c κs = (omega (arith, few (tested (c .before))), room-header (fits (c .before)))
 
 sub-put-types : tie.Need-sub-put-types
-sub-put-types c = omega (arith, eight (c .before .before .before .before), header-kept c)
+sub-put-types c = omega (arith, room-header (fits (c .before .before .before .before)), header-kept c)
 
 part-put-types-start : tie.Need-part-put-types-start
-part-put-types-start c = omega (arith, eight (c .before .before .before .before), header-kept c)
+part-put-types-start c = omega (arith, room-header (fits (c .before .before .before .before)), header-kept c)
 
 part-put-types-end : tie.Need-part-put-types-end
 part-put-types-end c = search needs
@@ -167,10 +169,10 @@ put-types-requires : tie.Need-put-types-requires
 put-types-requires c κs = search needs
 
 sub-write-statements : tie.Need-sub-write-statements
-sub-write-statements c = omega (arith, needed (counting c), room (c .before .before .before .before .before .before .before .before .before), types-kept c)
+sub-write-statements c = omega (arith, needed (counting c), fits (c .before .before .before .before .before .before .before .before .before) .room, types-kept c)
 
 part-write-statements-start : tie.Need-part-write-statements-start
-part-write-statements-start c = omega (arith, needed (counting c), room (c .before .before .before .before .before .before .before .before .before), types-kept c)
+part-write-statements-start c = omega (arith, needed (counting c), fits (c .before .before .before .before .before .before .before .before .before) .room, types-kept c)
 
 part-write-statements-end : tie.Need-part-write-statements-end
 part-write-statements-end c = search needs
@@ -187,7 +189,7 @@ returns-3 c =
     let e : tie.After-enum-told3 = c .before .before .before .before .before .before .before .before .before .before .before .before .before in
     let d : tie.After-types-size = tested e in
     all-written (listFile (s d)) (s d) (z d) (slots d .Γ) (slots d .widest) _ (needed d) _ _ (e .before .before .check-room .ensures) (e .enum-told3 .given .1)
-    (written-file _ _ (slots d .widest) _ _ _ _ (z d) (sized d) (counted d) refl refl (room e) _ (header (headed w)) _ (w .before .before .put-types .kept .0) (types w) _ (c .before .before .write-statements .ensures))
+    (written-file (fits e) _ (header (headed w)) _ (w .before .before .put-types .kept .0) (types w) _ (c .before .before .write-statements .ensures))
 
 pub compile-spec : {M : Type 1} → statement M
 compile-spec =

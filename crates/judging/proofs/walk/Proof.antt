@@ -2,16 +2,13 @@
 use mathlib.Core.Path.{_≡_, refl, ap, _∙_}
 use Prim.Native.Nat.{_+_, _*_, _-_, _≤_, _<_}
 use native.Mathlib.Omega.{arith}
-use lib.ListN.{length}
 use Rattle.answers.specs.Ladder.{least}
 use Rattle.answers.specs.declared.Check.the-variants.{Pass}
 use Rattle.table.specs.Faults.{tableRungs}
 use Rattle.list.specs.Layout.{statements, given as givenBefore}
 use Rattle.list.proofs.Walks.{given-first, given-more}
 use Rattle.list.proofs.Framed.{Listed, list-passes}
-use Rattle.calculus.specs.Tables.{free}
-use Rattle.calculus.specs.Version1.{signature1}
-use Rattle.decoded.specs.Table.{tableOf}
+use Rattle.decoded.specs.Table.{freeCount, freeOf}
 use Rattle.free_symbols.specs.Free.{Lists}
 use Rattle.judging.specs.Verdicts.{verdictOf}
 use Rattle.judging.proofs.ListedLaws.{readable}
@@ -23,7 +20,7 @@ use Rattle.judging.proofs.walk.Tie as tie
 abbrev Inv-loop : tie.InvT-loop
 Inv-loop table list meanings₀ given n base registers₀ state₀ i₀ meanings registers state i =
     (i ≤ n) × (registers ≤ 255 + 255 * i) × (registers ≡ givenBefore list given i)
-    × (least (tableRungs table) ≡ Pass → Listed list (length (free signature1 (tableOf table))) → Lists (free signature1 (tableOf table)) meanings₀ given → Going table list meanings registers state i)
+    × (least (tableRungs table) ≡ Pass → Listed list (freeCount table) → Lists (freeOf table) meanings₀ given → Going table list meanings registers state i)
 
 abbrev μ-loop : tie.MeasureT-loop
 μ-loop table list meanings₀ given n base registers₀ state₀ i₀ meanings registers state i = n - i
@@ -62,7 +59,7 @@ returns c =
     let n = c .before .before .before .before .before .loop in
     let k : n .i < statements (a .list .now) = rw (c .before .before .before .before .before .before .before .before .statement-count .ensures) at (c .before .before .before .before .loop-test .taken) in
     λ e p h.
-    let y = list-passes (a .list .now) (length (free signature1 (tableOf (a .table .now)))) .0 p in
+    let y = list-passes (a .list .now) (freeCount (a .table .now)) .0 p in
     let g = n .inv .3 e y h in
     let r = readable (a .list .now) _ (n .i) (n .registers) y k (rw (h .count) at (n .inv .2)) in
     going-stop (a .table .now) (a .list .now) _ _ e (n .registers) (n .state) (n .i) k g _ (c .before .before .before .before .before .before .before .statements-at .ensures) r _ (c .before .before .take-turn .ensures) (c .enum-told .given .1)
@@ -106,7 +103,7 @@ returns-2 c =
     let n = c .before .before .loop in
     let k : statements (a .list .now) ≤ n .i = rw (c .before .before .before .before .before .statement-count .ensures) at (c .before .loop-test .left) in
     λ e p h.
-    let y = list-passes (a .list .now) (length (free signature1 (tableOf (a .table .now)))) .0 p in
+    let y = list-passes (a .list .now) (freeCount (a .table .now)) .0 p in
     ap verdictOf (c .at-end .ensures) ∙ going-end (a .table .now) (a .list .now) _ e (n .registers) (n .state) (n .i) k (n .inv .3 e y h)
 
 pub walk-spec : {M : Type 1} → statement M

@@ -1,6 +1,6 @@
 -- `slots::slot_meet` meets its contract. Assumes nothing.
-use mathlib.Core.Path.{refl, ap}
-use Prim.Native.Nat.{ℕ, _*_}
+use mathlib.Core.Path.{refl}
+use Prim.Native.Nat.{ℕ}
 use native.Mathlib.Omega.{arith}
 use lib.ListN.{length-replicate}
 use borrow.Author.Needs.{needs}
@@ -8,17 +8,14 @@ use Rattle.slots.proofs.SlotLaws.{met-past, met-apart, met-put}
 use Rattle.slots.proofs.slot_meet.Statement.{statement}
 use Rattle.slots.proofs.slot_meet.Tie as tie
 
-wide-requires : tie.Need-wide-requires
-wide-requires c κs = search needs
-
-mul-at : tie.Need-mul-at
-mul-at c = search needs
+slot-at-requires : tie.Need-slot-at-requires
+slot-at-requires c κs = search needs
 
 add-e : tie.Need-add-e
 add-e c = search needs
 
 returns : tie.Need-returns
-returns c = met-past _ _ _ _ _ _ _ (ap (λ (n : ℕ). n * 129) (c .before .wide .ensures)) refl (c .if1 .taken)
+returns c = met-past _ _ _ _ _ _ _ (c .before .slot-at .ensures) refl (c .if1 .taken)
 
 slice-aggregate-meet : tie.Need-slice-aggregate-meet
 slice-aggregate-meet c = search needs
@@ -45,7 +42,7 @@ same-length : tie.Need-same-length
 same-length c = search needs
 
 returns-2 : tie.Need-returns-2
-returns-2 c = met-apart _ _ _ _ _ _ (ap (λ (n : ℕ). n * 129) (c .before .before .before .before .before .before .before .before .wide .ensures)) refl (c .before .before .before .before .before .before .before .if1 .left) _ _ (length-replicate {A = ℕ} 129 0) _ (rw (c .enum-told .given .1) at (c .before .before .before .meet .ensures))
+returns-2 c = met-apart _ _ _ _ _ _ (c .before .before .before .before .before .before .before .before .slot-at .ensures) refl (c .before .before .before .before .before .before .before .if1 .left) _ _ (length-replicate {A = ℕ} 129 0) _ (rw (c .enum-told .given .1) at (c .before .before .before .meet .ensures))
 
 sub-copy : tie.Need-sub-copy
 sub-copy c = search needs
@@ -72,14 +69,13 @@ same-length-2 : tie.Need-same-length-2
 same-length-2 c = search needs
 
 returns-3 : tie.Need-returns-3
-returns-3 c = met-put _ _ _ _ _ _ (ap (λ (n : ℕ). n * 129) (c .before .before .before .before .before .before .before .before .before .before .before .before .before .before .before .wide .ensures)) refl (c .before .before .before .before .before .before .before .before .before .before .before .before .before .before .if1 .left) _ _ (length-replicate {A = ℕ} 129 0) _ _ (rw (c .before .before .before .before .before .before .before .n .given .1) at (c .before .before .before .before .before .before .before .before .before .before .meet .ensures)) (c .before .before .copy .ensures .1)
+returns-3 c = met-put _ _ _ _ _ _ (c .before .before .before .before .before .before .before .before .before .before .before .before .before .before .before .slot-at .ensures) refl (c .before .before .before .before .before .before .before .before .before .before .before .before .before .before .if1 .left) _ _ (length-replicate {A = ℕ} 129 0) _ _ (rw (c .before .before .before .before .before .before .before .n .given .1) at (c .before .before .before .before .before .before .before .before .before .before .meet .ensures)) (c .before .before .copy .ensures .1)
 
 pub slot-meet-spec : {M : Type 1} → statement M
 slot-meet-spec =
     tie.close
     (tie.spec
-    wide-requires
-    mul-at
+    slot-at-requires
     add-e
     returns
     slice-aggregate-meet

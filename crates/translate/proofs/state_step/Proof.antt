@@ -1,5 +1,5 @@
 -- `translate::state_step` meets its contract. Assumes nothing.
-use Rattle.translate.specs.Making.{stateBytes, stepBytes}
+use Rattle.translate.specs.Making.{stateBytes, stepStatedBytes}
 use Rattle.translate.proofs.StepLaws.{step-bytes, state-none, one-wrote}
 use Rattle.buffers.proofs.Parts.{part-length}
 use Rattle.buffers.proofs.OverLaws.{over-fits, over-none, over-lent}
@@ -21,7 +21,7 @@ abbrev later : tie.After-step-field3 → ℕ
 later c = stepField (start c .args .s .now) (start c .args .k) 3
 
 read : (c : tie.After-step-field3) (op : ℕ) → c .before .before .before .before .before .step-code .result ≡ op
-    → stepBytes (start c .args .s .now) (start c .args .k) (start c .args .symbols .now) (start c .args .terms .now) (start c .args .registers)
+    → stepStatedBytes (start c .args .s .now) (start c .args .k) (start c .args .symbols .now) (start c .args .terms .now) (start c .args .registers)
     ≡ stateBytes op (c .before .before .before .register-of .result) (c .before .register-of2 .result) (c .step-field3 .result) (later c)
 read c op e =
     step-bytes (start c .args .s .now) (start c .args .k) _ _ _ op _ _ _ _ (sym e ∙ c .before .before .before .before .before .step-code .ensures) (rw (c .before .before .before .before .step-field .ensures) at (c .before .before .before .register-of .ensures)) (rw (c .before .before .step-field2 .ensures) at (c .before .register-of2 .ensures)) (c .step-field3 .ensures) refl

@@ -1,6 +1,6 @@
 -- `type_lists::slot_type` meets its contract. Assumes nothing.
-use mathlib.Core.Path.{refl, ap}
-use Prim.Native.Nat.{ℕ, _*_, _≤_}
+use mathlib.Core.Path.{refl}
+use Prim.Native.Nat.{_≤_}
 use native.Mathlib.Omega.{arith}
 use Rattle.type_lists.proofs.SlotTypes.{type-past, type-missing, type-inside, type-is}
 use borrow.Author.Needs.{needs}
@@ -9,13 +9,10 @@ use Rattle.type_lists.proofs.slot_type.Tie as tie
 
 -- the type lies inside its slot
 inside : (c : tie.After-known-told) → c .before .n .given .0 .0 ≤ 129
-inside c = type-inside _ _ _ _ (ap (λ (n : ℕ). n * 129) (c .before .before .before .before .before .before .wide .ensures)) refl _ (rw (c .before .n .given .1) at (c .before .before .before .type-end .ensures))
+inside c = type-inside _ _ _ _ (c .before .before .before .before .before .before .slot-at .ensures) refl _ (rw (c .before .n .given .1) at (c .before .before .before .type-end .ensures))
 
-wide-requires : tie.Need-wide-requires
-wide-requires c κs = search needs
-
-mul-at : tie.Need-mul-at
-mul-at c = search needs
+slot-at-requires : tie.Need-slot-at-requires
+slot-at-requires c κs = search needs
 
 add-e : tie.Need-add-e
 add-e c = search needs
@@ -30,7 +27,7 @@ part-result-end : tie.Need-part-result-end
 part-result-end c = search needs
 
 returns : tie.Need-returns
-returns c = type-past _ _ _ _ (ap (λ (n : ℕ). n * 129) (c .before .before .wide .ensures)) refl (c .before .if1 .taken)
+returns c = type-past _ _ _ _ (c .before .before .slot-at .ensures) refl (c .before .if1 .taken)
 
 sub-type-end : tie.Need-sub-type-end
 sub-type-end c = search needs
@@ -60,7 +57,7 @@ part-result-end-2 : tie.Need-part-result-end-2
 part-result-end-2 c = search needs
 
 returns-2 : tie.Need-returns-2
-returns-2 c = type-missing _ _ _ _ (ap (λ (n : ℕ). n * 129) (c .before .before .before .before .before .before .wide .ensures)) refl (rw (c .before .enum-told .given .1) at (c .before .before .before .type-end .ensures))
+returns-2 c = type-missing _ _ _ _ (c .before .before .before .before .before .before .slot-at .ensures) refl (rw (c .before .enum-told .given .1) at (c .before .before .before .type-end .ensures))
 
 add-end : tie.Need-add-end
 add-end c = omega (arith, inside c)
@@ -75,14 +72,13 @@ part-result-end-3 : tie.Need-part-result-end-3
 part-result-end-3 c = omega (arith, inside c, c .before .before .before .before .before .if1 .left)
 
 returns-3 : tie.Need-returns-3
-returns-3 c = type-is _ _ _ _ (ap (λ (n : ℕ). n * 129) (c .before .before .before .before .before .before .before .wide .ensures)) refl _ (rw (c .before .before .n .given .1) at (c .before .before .before .before .type-end .ensures)) _ refl
+returns-3 c = type-is _ _ _ _ (c .before .before .before .before .before .before .before .slot-at .ensures) refl _ (rw (c .before .before .n .given .1) at (c .before .before .before .before .type-end .ensures)) _ refl
 
 pub slot-type-spec : {M : Type 1} → statement M
 slot-type-spec =
     tie.close
     (tie.spec
-    wide-requires
-    mul-at
+    slot-at-requires
     add-e
     sub-result
     part-result-start

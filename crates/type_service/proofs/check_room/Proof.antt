@@ -1,6 +1,5 @@
 -- `type_service::check_room` meets its contract. Assumes nothing.
 use Rattle.type_service.proofs.ServiceLaws.{room-short}
-use Rattle.type_service.proofs.ServiceLaws.{room-short}
 use Rattle.type_service.specs.Services.{enough}
 use borrow.Author.Needs.{needs}
 use Rattle.type_service.proofs.check_room.Statement.{statement}

@@ -1,5 +1,7 @@
 -- `type_service::type_slots` meets its contract. Assumes nothing.
-use Rattle.type_service.proofs.ServiceLaws.{slots-faulty, slots-untyped, slots-widest}
+use Rattle.type_service.proofs.ServiceLaws.{slots-faulty, slots-inferred}
+use mathlib.Core.Path.{refl}
+use Rattle.typing.specs.declared.Typing.the-variants.{Widest, NoTyping}
 use borrow.Author.Needs.{needs}
 use Rattle.type_service.proofs.type_slots.Statement.{statement}
 use Rattle.type_service.proofs.type_slots.Tie as tie
@@ -29,7 +31,7 @@ same-length : tie.Need-same-length
 same-length c = search needs
 
 returns-2 : tie.Need-returns-2
-returns-2 c = slots-widest _ _ _ _ (c .before .before .before .before .before .before .before .before .check-table .ensures) (c .before .before .before .before .before .before .enum-told .given .1) (rw (c .enum-told3 .given .1) at (c .before .before .before .before .infer-table .ensures))
+returns-2 c = slots-inferred _ _ _ _ (c .before .before .before .before .before .before .before .before .check-table .ensures) (c .before .before .before .before .before .before .enum-told .given .1) Widest _ (rw (c .enum-told3 .given .1) at (c .before .before .before .before .infer-table .ensures)) refl
 
 cast-refuse : tie.Need-cast-refuse
 cast-refuse c = search needs
@@ -41,7 +43,7 @@ same-length-2 : tie.Need-same-length-2
 same-length-2 c = search needs
 
 returns-3 : tie.Need-returns-3
-returns-3 c = slots-untyped _ _ _ _ (c .before .before .before .before .before .before .before .before .before .before .check-table .ensures) (c .before .before .before .before .before .before .before .before .enum-told .given .1) _ _ (rw (c .before .before .k .given .1) at (c .before .before .before .before .before .before .infer-table .ensures)) (c .refuse .ensures)
+returns-3 c = slots-inferred _ _ _ _ (c .before .before .before .before .before .before .before .before .before .before .check-table .ensures) (c .before .before .before .before .before .before .before .before .enum-told .given .1) (NoTyping _) _ (rw (c .before .before .k .given .1) at (c .before .before .before .before .before .before .infer-table .ensures)) (c .refuse .ensures)
 
 pub type-slots-spec : {M : Type 1} → statement M
 type-slots-spec =

@@ -4,18 +4,18 @@ use Rattle.typing.proofs.MarkLaws.{step-marked}
 use Rattle.typing.proofs.mark_step.Statement.{statement}
 use Rattle.typing.proofs.mark_step.Tie as tie
 
-mark-field-requires : tie.Need-mark-field-requires
-mark-field-requires c κs = search needs
+mark-use-requires : tie.Need-mark-use-requires
+mark-use-requires c κs = search needs
 
-mark-field-requires-2 : tie.Need-mark-field-requires-2
-mark-field-requires-2 c κs = search needs
+mark-use-requires-2 : tie.Need-mark-use-requires-2
+mark-use-requires-2 c κs = search needs
 
 mark-down-requires : tie.Need-mark-down-requires
 mark-down-requires c κs = search needs
 
 returns : tie.Need-returns
-returns c = step-marked _ _ _ _ _ _ (c .before .before .before .before .before .before .before .pre) (c .before .before .before .before .mark-field .ensures) (c .before .before .mark-field2 .ensures) (c .mark-down .ensures)
+returns c = step-marked _ _ _ _ _ _ (c .before .before .before .before .before .before .before .pre) (c .before .before .before .before .mark-use .ensures) (c .before .before .mark-use2 .ensures) (c .mark-down .ensures)
 
 pub mark-step-spec : {M : Type 1} → statement M
 mark-step-spec =
-    tie.close (tie.spec mark-field-requires mark-field-requires-2 mark-down-requires returns)
+    tie.close (tie.spec mark-use-requires mark-use-requires-2 mark-down-requires returns)
