@@ -18,11 +18,12 @@ use Rattle.calculus.specs.Scope.{In, there, Distinct, Scoped}
 use Rattle.calculus.specs.Figure2.{extend}
 use Rattle.calculus.specs.Typing.{start, Below, Checked, Answer, widest, untyped}
 use Rattle.calculus.specs.Inference.{Want, want, wants, needs, byEntry, lowered, push, pushAll, needsAt, needsOf, standing, atStep, typing, found, before, inferBy, inferFrom}
+use Rattle.calculus.proofs.Lists.{distinct-tail}
 use Rattle.calculus.proofs.Environments.{T, Env, extend-same, Best, best, stuck}
 use Rattle.calculus.proofs.PushLaws as push
 use Rattle.calculus.proofs.StepLaws as step
 use Rattle.calculus.proofs.StepTyping.{scoped-split}
-use Rattle.calculus.proofs.SizeLaws.{distinct-tail, small-from}
+use Rattle.calculus.proofs.SizeLaws.{small-from}
 
 -- a narrower type has at least as many nodes
 pub nodes-grow : (𝓣 : TypeTable) {a b : Ty 𝓣} → _<:_ 𝓣 a b → nodes 𝓣 b ≤ nodes 𝓣 a

@@ -1,20 +1,15 @@
 -- E1 passes the checks that typing assumes, so the theorems say something of it. Assumes nothing.
 use mathlib.Core.Path.{_≡_, refl}
-use mathlib.Core.List.{List, [], _∷_}
+use mathlib.Core.List.{[], _∷_}
 use Prim.Native.Nat.{ℕ, zero, suc, _<_}
 use native.Mathlib.Omega.{arith}
 use Rattle.calculus.specs.Terms.{leaf, Act, send, receive, fresh, decrypt, mapAct, operands, binders, bound}
 use Rattle.calculus.specs.Tables.{entryTree, treesFrom, Lower, low-leaf, entryAt, process}
-use Rattle.calculus.specs.Scope.{In, here, there, All, all-nil, all-cons, Distinct, di-nil, di-cons, Lacks, la-symbol, Scoped, sc-nil, sc-step, RestrictsNames}
-use Rattle.calculus.specs.Typing.{Checked, AnswerIs}
-use Rattle.calculus.specs.Inference.{infer}
+use Rattle.calculus.specs.Scope.{In, All, all-nil, all-cons, Distinct, di-nil, di-cons, Lacks, la-symbol, Scoped, sc-nil, sc-step, RestrictsNames}
+use Rattle.calculus.specs.Typing.{Checked}
 use Rattle.calculus.specs.Version1.{signature1, encryption}
-use Rattle.calculus.proofs.Version1Laws.{right1}
 use Rattle.calculus.specs.ExampleTables.{E1}
-
-all-in : {A : Type 0} {P : A → Type 0} {x : A} {l : List A} → All P l → In x l → P x
-all-in (all-cons p q) here = p
-all-in (all-cons p q) (there i) = all-in q i
+use Rattle.calculus.proofs.Lists.{all-in}
 
 closed : (i : ℕ) → i < 4 → Lower signature1 i (entryAt signature1 0 (E1 .entries) i)
 closed zero h = low-leaf
@@ -46,7 +41,7 @@ no-fresh : All (λ s. (x : ℕ) → fresh x ≡ s → ⊥) (E1 .steps)
 no-fresh = all-cons (λ x e. not-receive 0 2 x e) (all-cons (λ x e. not-decrypt 2 1 3 x e) (all-cons (λ x e. not-send 0 3 x e) all-nil))
 
 restricts : RestrictsNames signature1 (E1 .sorts) (E1 .steps)
-restricts x i = absurd (all-in no-fresh i x refl)
+restricts x i = absurd (all-in no-fresh (fresh x) i x refl)
 
 apart : (x y : ℕ) → x < y → ¬ (x ≡ y)
 apart x y h e = omega arith
@@ -72,10 +67,7 @@ scope2 x i = elim i [ ]
 
 scoped : Scoped signature1 (process signature1 E1)
 unfolding treesFrom entryTree mapAct bound binders operands
-scoped = sc-step (λ x i. all-in scope0 i) (sc-step (λ x i. all-in scope1 i) (sc-step scope2 sc-nil))
+scoped = sc-step (all-in scope0) (sc-step (all-in scope1) (sc-step scope2 sc-nil))
 
 pub e1-checked : Checked signature1 E1
-e1-checked = record { closed = closed; inRange = λ s i p q. all-in (all-in ranges p) q; restricts = restricts; once = once; scoped = scoped }
-
-pub e1-right : AnswerIs signature1 E1 (infer signature1 E1)
-e1-right = right1 E1 e1-checked
+e1-checked = record { closed = closed; inRange = λ s i p q. all-in (all-in ranges s p) i q; restricts = restricts; once = once; scoped = scoped }

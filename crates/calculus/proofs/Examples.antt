@@ -12,7 +12,8 @@ use Rattle.types.specs.Types.{meet}
 use Rattle.types.specs.Version1.{bytes, parent1, depth1, code1}
 use Rattle.calculus.specs.Figure2.{pick, extend}
 use Rattle.calculus.specs.Typing.{allowed, Answer, widest, untyped}
-use Rattle.calculus.specs.Inference.{infer, mark, marks, wants, needs, spread, down, byEntry, push, pushAll, needsAt, needsOf, atStep, typing, found, before, inferBy}
+use Rattle.calculus.specs.Tables.{isIn}
+use Rattle.calculus.specs.Inference.{infer, mark, wants, needs, spread, down, byEntry, push, pushAll, needsAt, needsOf, atStep, typing, found, before, inferBy}
 use Rattle.calculus.specs.Terms.{operands}
 use Rattle.calculus.specs.Version1.{signature1}
 use Rattle.calculus.specs.ExampleTables.{E1, E2, E5, E6, E7, E8, Unused, doubling, Shared}
@@ -37,5 +38,5 @@ pub record Examples : Type 0 where
   pub shared : shown (0 ∷ 1 ∷ 2 ∷ []) (infer signature1 Shared) ≡ types ((2 ∷ []) ∷ (3 ∷ []) ∷ (0 ∷ []) ∷ [])
 
 pub examples : Examples
-unfolding ℕ-discrete decide Option·elim bind within under lowerOf meet encoded parent1 depth1 code1 operands pick extend mark marks allowed wants needs spread down byEntry push pushAll needsAt needsOf atStep typing found before inferBy doubling shown
+unfolding ℕ-discrete decide Option·elim bind within under lowerOf meet encoded parent1 depth1 code1 operands pick extend mark isIn allowed wants needs spread down byEntry push pushAll needsAt needsOf atStep typing found before inferBy doubling shown
 examples = record { e1 = refl; e2 = refl; e5 = refl; e6 = refl; e7 = refl; e8 = refl; unused = refl; shared = refl }

@@ -21,7 +21,7 @@ use Rattle.calculus.proofs.StepLaws as step
 use Rattle.calculus.proofs.StepTyping as figure
 
 module _ (𝓢 : Signature) where
-  start-name : (so : List Sort) (x : ℕ) → sortOf so x ≡ is-name → start 𝓢 so x ≡ Basic (𝓢 .name)
+  pub start-name : (so : List Sort) (x : ℕ) → sortOf so x ≡ is-name → start 𝓢 so x ≡ Basic (𝓢 .name)
   unfolding allowed
   start-name so x e = ap (allowed 𝓢) e
 
@@ -76,6 +76,14 @@ module _ (𝓢 : Signature) where
         rw (typing-before (inferBy 𝓢 (meet (𝓢 .types)) entry n (start 𝓢 so) ss) (λ Θ. atStep 𝓢 (meet (𝓢 .types)) entry n s Θ))
         (step-best n (start 𝓢 so) s ss (λ x e. rw (start-name so x (r x (in-here (figure.is-fresh 𝓢 laws es closed s x e)))) (sub-refl 𝓢 (Basic (𝓢 .name)))) (figure.scoped-split 𝓢 c .0) (λ t i. small s t here i)
         (infer-best n so ss (λ x i. r x (there i)) (figure.scoped-split 𝓢 c .1) (λ s i p q. small s i (there p) q)))
+
+  pub typed-tail : {Γ : Env 𝓢} {s : Step 𝓢} {P : Process 𝓢} → Typed 𝓢 Γ (s ∷ P) → Typed 𝓢 Γ P
+  typed-tail (P-Out d e p) = p
+  typed-tail (P-In d p) = p
+  typed-tail (P-Restr l p) = p
+  typed-tail (P-Match d e p) = p
+  typed-tail (P-PSplit d p) = p
+  typed-tail (P-ShKD d e p) = p
 
   -- ── The steps from i on keep what the checks leave ──
   module _ (es : List (Entry 𝓢 ℕ)) where
@@ -158,14 +166,6 @@ module _ (𝓢 : Signature) where
     typed-later zero zero ss h d = d
     typed-later zero (suc j) [] h d = P-Nil
     typed-later zero (suc j) (s ∷ ss) h d = typed-later zero j ss (omega arith) (typed-tail d)
-      where
-        typed-tail : {Γ : Env 𝓢} {s : Step 𝓢} {P : Process 𝓢} → Typed 𝓢 Γ (s ∷ P) → Typed 𝓢 Γ P
-        typed-tail (P-Out d e p) = p
-        typed-tail (P-In d p) = p
-        typed-tail (P-Restr l p) = p
-        typed-tail (P-Match d e p) = p
-        typed-tail (P-PSplit d p) = p
-        typed-tail (P-ShKD d e p) = p
     typed-later (suc i) zero ss h d = absurd (omega arith)
     typed-later (suc i) (suc j) [] h d = d
     typed-later (suc i) (suc j) (s ∷ ss) h d = typed-later i j ss (omega arith) d

@@ -1,6 +1,6 @@
 -- Figure 2 on terms, split in two: a term has a type exactly if the needs inside it are met and it has the type's shape. Assumes nothing.
 use mathlib.Core.Path.{_≡_, refl}
-use mathlib.Core.Logic.{_⊎_, inl, inr, _↔_}
+use mathlib.Core.Logic.{_⊎_, inl, inr}
 use Prim.Native.Nat.{ℕ}
 use Rattle.types.specs.Forest.{Under, u-same}
 use Rattle.types.specs.Types.{Message, Basic, Cipher, Pair, top, basic, cipher, pair}
@@ -67,9 +67,6 @@ module _ (𝓢 : Signature) where
   shape-has (ke-seal p q k) sh-message = T-Sub (T-ShKC (shape-has p sh-message) (shape-has q k)) top
   shape-has (ke-seal p q k) (sh-seal e s) = seal-has e (T-ShKC (shape-has p s) (shape-has q k))
 
-  pub inversion : {Γ : Env 𝓢} {M : Term 𝓢} {A : T 𝓢} → Has 𝓢 Γ M A ↔ (Keyed Γ M × Shape Γ M A)
-  inversion = (λ d. has-shape d, λ p. shape-has (p .0) (p .1))
-
   -- ── Other environments ──
 
   -- a narrower environment types at least as much
@@ -80,16 +77,29 @@ module _ (𝓢 : Signature) where
   has-down w (T-One d) = T-One (has-down w d)
   has-down w (T-Sub d l) = T-Sub (has-down w d) l
 
+  -- what a term lacks, its parts lack
+  pub lacks-itself : {x : ℕ} → Lacks 𝓢 x (leaf x) → ⊥
+  lacks-itself (la-symbol n) = n refl
+
+  pub lacks-part : {x : ℕ} {k : One} {M : Term 𝓢} → Lacks 𝓢 x (one k M) → Lacks 𝓢 x M
+  lacks-part (la-one l) = l
+
+  pub lacks-left : {x : ℕ} {k : Two Seal} {M N : Term 𝓢} → Lacks 𝓢 x (two k M N) → Lacks 𝓢 x M
+  lacks-left (la-two l r) = l
+
+  pub lacks-right : {x : ℕ} {k : Two Seal} {M N : Term 𝓢} → Lacks 𝓢 x (two k M N) → Lacks 𝓢 x N
+  lacks-right (la-two l r) = r
+
   one-lacks : {k : One} {M : Term 𝓢} {A : Type 0} {y : ℕ} → Lacks 𝓢 y (one k M) ⊎ A → Lacks 𝓢 y M ⊎ A
-  one-lacks (inl (la-one f)) = inl f
+  one-lacks (inl f) = inl (lacks-part f)
   one-lacks (inr a) = inr a
 
   left-lacks : {k : Two Seal} {M N : Term 𝓢} {A : Type 0} {y : ℕ} → Lacks 𝓢 y (two k M N) ⊎ A → Lacks 𝓢 y M ⊎ A
-  left-lacks (inl (la-two f g)) = inl f
+  left-lacks (inl f) = inl (lacks-left f)
   left-lacks (inr a) = inr a
 
   right-lacks : {k : Two Seal} {M N : Term 𝓢} {A : Type 0} {y : ℕ} → Lacks 𝓢 y (two k M N) ⊎ A → Lacks 𝓢 y N ⊎ A
-  right-lacks (inl (la-two f g)) = inl g
+  right-lacks (inl f) = inl (lacks-right f)
   right-lacks (inr a) = inr a
 
   -- only the symbols that a term holds matter
@@ -97,7 +107,7 @@ module _ (𝓢 : Signature) where
   has-agree {Γ} {Δ} h (T-Var {x = x}) = go (h x)
     where
       go : Lacks 𝓢 x (leaf x) ⊎ (Δ x ≡ Γ x) → Has 𝓢 Δ (leaf x) (Γ x)
-      go (inl (la-symbol n)) = absurd (n refl)
+      go (inl f) = absurd (lacks-itself f)
       go (inr e) = let l : Sub 𝓢 (Δ x) (Γ x) = rw e (sub-refl 𝓢 (Γ x)) in T-Sub T-Var l
   has-agree h (T-Pair d e) = T-Pair (has-agree (λ y. left-lacks (h y)) d) (has-agree (λ y. right-lacks (h y)) e)
   has-agree h (T-ShKC d e) = T-ShKC (has-agree (λ y. left-lacks (h y)) d) (has-agree (λ y. right-lacks (h y)) e)

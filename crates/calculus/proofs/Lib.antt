@@ -1,4 +1,5 @@
 -- Laws of `calculus`, for the proofs of the crates above.
+pub mod Lists
 pub mod TableLaws
 pub mod Environments
 pub mod Inversion
@@ -8,6 +9,7 @@ pub mod StepLaws
 pub mod StepTyping
 pub mod InferenceLaws
 pub mod OneEnvironment
+pub mod Bounded
 pub mod Sums
 pub mod Weights
 pub mod SizeLaws

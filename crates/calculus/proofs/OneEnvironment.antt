@@ -1,32 +1,20 @@
 -- Proof of the statement of specs/Typing.antt: the printed rules and one environment for all symbols say the same. Assumes nothing.
 use mathlib.Core.Path.{_≡_, refl, sym, _∙_, subst}
 use mathlib.Core.Logic.{_⊎_, inl, inr}
-use mathlib.Core.List.{List, [], _∷_}
+use mathlib.Core.List.{List, _∷_}
 use Prim.Native.Nat.{ℕ}
 use native.Mathlib.Decide.{ℕ-discrete}
 use Rattle.types.specs.Types.{Basic, Cipher, Pair}
 use Rattle.calculus.specs.Signature.{Signature}
 use Rattle.calculus.specs.Terms.{Term, operands, binders, bound, Step, Process}
-use Rattle.calculus.specs.Scope.{In, here, there, all-nil, all-cons, NotIn, Distinct, di-cons, Lacks, Scoped, BindsOnce}
+use Rattle.calculus.specs.Scope.{In, all-cons, NotIn, Lacks, Scoped, BindsOnce}
 use Rattle.calculus.specs.Figure2.{_<:_ as Sub, _⊢_∶_ as Has, extend, Printed}
 use Rattle.calculus.specs.Figure2 as printed
 use Rattle.calculus.specs.Typing.{Typed, P-Nil, P-Out, P-In, P-Restr, P-Match, P-PSplit, P-ShKD, PrintedIsOneEnvironment}
+use Rattle.calculus.proofs.Lists.{all-split, in-or-not, distinct-split}
 use Rattle.calculus.proofs.Environments.{T, Env, extend-same, extend-other}
 use Rattle.calculus.proofs.Inversion.{has-agree}
-use Rattle.calculus.proofs.StepTyping.{all-split, scoped-split}
-
-distinct-split : {x : ℕ} {l : List ℕ} → Distinct (x ∷ l) → NotIn x l × Distinct l
-distinct-split (di-cons o u) = (o, u)
-
--- in a list, or not
-in-or-not : (x : ℕ) (l : List ℕ) → In x l ⊎ NotIn x l
-in-or-not x [] = inr all-nil
-in-or-not x (y ∷ l) = go (ℕ-discrete x y) (in-or-not x l)
-  where
-    go : Dec (x ≡ y) → In x l ⊎ NotIn x l → In x (y ∷ l) ⊎ NotIn x (y ∷ l)
-    go (yes e) d = inl (rw e here)
-    go (no n) (inl i) = inl (there i)
-    go (no n) (inr o) = inr (all-cons n o)
+use Rattle.calculus.proofs.StepTyping.{scoped-split}
 
 module _ (𝓢 : Signature) where
   -- Δ is Γ but for the symbols of a list

@@ -14,38 +14,17 @@ use Rattle.types.specs.Prefix.{nodes}
 use Rattle.calculus.specs.Signature.{Signature, SignatureLaws, pairing, seal}
 use Rattle.calculus.specs.Terms.{Term, build1, build2, Act, send, receive, fresh, compare, split, decrypt, mapAct, operands, binders, bound, Process}
 use Rattle.calculus.specs.Tables.{Entry, leafEntry, kindEntry, entryAt, Closed, Sort, is-name, is-variable, sortOf, Table, meaning}
-use Rattle.calculus.specs.Scope.{In, here, there, All, NotIn, Lacks, Distinct, di-cons, Scoped}
+use Rattle.calculus.specs.Scope.{In, here, there, All, NotIn, Lacks, Distinct, Scoped}
 use Rattle.calculus.specs.Figure2.{extend}
 use Rattle.calculus.specs.Typing.{allowed, start, widest, SmallTypes}
 use Rattle.calculus.specs.Inference.{Want, want, wants, needs, byEntry, push, pushAll, needsAt, needsOf, atStep, standing, typing, inferBy, infer}
+use Rattle.calculus.proofs.Lists.{in-append-left, in-append-right, in-append, in-or-not, distinct-tail}
 use Rattle.calculus.proofs.Environments.{T, Env, extend-same, extend-other, Best, best, stuck}
 use Rattle.calculus.proofs.StepLaws as step
 use Rattle.calculus.proofs.StepTyping.{scoped-split, frame, operands-map}
 use Rattle.calculus.proofs.InferenceLaws.{typing-before, typing-widest, inference-is-right, no-second-answer}
-use Rattle.calculus.proofs.Sums.{sum, in?, rest, rest-bump, rest-drops, rest-elem, rest-zero, sum-elem}
+use Rattle.calculus.proofs.Sums.{sum, rest, rest-bump, rest-drops, rest-elem, rest-zero, sum-elem}
 use Rattle.calculus.proofs.Weights.{Each, ea-none, ea-some, inner, nodes-inner, inner-nodes, meet-weight}
-
--- ── Lists of symbols ──
-in-more : {x y : ℕ} {a b : List ℕ} → In x a ⊎ In x b → In x (y ∷ a) ⊎ In x b
-in-more (inl j) = inl (there j)
-in-more (inr j) = inr j
-
-in-append : {x : ℕ} (a : List ℕ) {b : List ℕ} → In x (a ++ b) → In x a ⊎ In x b
-in-append [] i = inr i
-in-append (y ∷ a) here = inl here
-in-append (y ∷ a) (there i) = in-more (in-append a i)
-
-in-left : {x : ℕ} (a b : List ℕ) → In x a → In x (a ++ b)
-in-left (y ∷ a) b here = here
-in-left (y ∷ a) b (there i) = there (in-left a b i)
-
-in-right : {x : ℕ} (a : List ℕ) {b : List ℕ} → In x b → In x (a ++ b)
-in-right [] i = i
-in-right (y ∷ a) i = there (in-right a i)
-
-pub distinct-tail : (a : List ℕ) {b : List ℕ} → Distinct (a ++ b) → Distinct b
-distinct-tail [] u = u
-distinct-tail (x ∷ a) (di-cons o u) = distinct-tail a u
 
 module _ (𝓢 : Signature) where
   -- the weight of a type, and of wants
@@ -206,7 +185,7 @@ module _ (𝓢 : Signature) where
         step-small n s ss f u h small (ea-some {a = Θ} sm) = go (step.at-step-is 𝓢 laws es closed n s Θ small) (at-step-grown (binds s ++ bound 𝓢 (processOf ss)) n s Θ)
           where
             all : live (binds s ++ bound 𝓢 (processOf ss)) Θ + sum (binds s) (λ x. w (Θ x)) ≤ live (bound 𝓢 (processOf ss)) Θ
-            all = unfold live in rest-drops S (binds s) (bound 𝓢 (processOf ss)) (λ x. w (Θ x)) (λ x i. h x (in-left (binds s) (bound 𝓢 (processOf ss)) i)) u
+            all = unfold live in rest-drops S (binds s) (bound 𝓢 (processOf ss)) (λ x. w (Θ x)) (λ x i. h x (in-append-left (bound 𝓢 (processOf ss)) i)) u
 
             old : (x : ℕ) → In x (binds s) ⊎ In x (bound 𝓢 (processOf ss)) → w (Θ x) ≤ suc (length ss)
             old x (inl i) = let a = sum-elem (binds s) (λ x. w (Θ x)) i in let b = all in let c = sm .0 in omega arith
@@ -226,15 +205,15 @@ module _ (𝓢 : Signature) where
         infer-small n so (s ∷ ss) c u h small =
             rw (typing-before 𝓢 (inferBy 𝓢 lower entry n (start 𝓢 so) ss) (λ Θ. atStep 𝓢 lower entry n s Θ))
             (step-small n s ss (scoped-split 𝓢 c .0) u h (λ t i. small s t here i)
-            (infer-small n so ss (scoped-split 𝓢 c .1) (distinct-tail (binds s) u) (λ x i. h x (in-right (binds s) i)) (λ s i p q. small s i (there p) q)))
+            (infer-small n so ss (scoped-split 𝓢 c .1) (distinct-tail (binds s) u) (λ x i. h x (in-append-right (binds s) i)) (λ s i p q. small s i (there p) q)))
 
         -- a symbol's type weighs at most as many as there are steps
         light : (ss : List (Act 𝓢 ℕ)) (Θ : Env 𝓢) → Small ss Θ → (x : ℕ) → x < S → w (Θ x) ≤ length ss
-        light ss Θ sm x k = go (in? x (bound 𝓢 (processOf ss)))
+        light ss Θ sm x k = go (in-or-not x (bound 𝓢 (processOf ss)))
           where
-            go : NotIn x (bound 𝓢 (processOf ss)) ⊎ In x (bound 𝓢 (processOf ss)) → w (Θ x) ≤ length ss
-            go (inl o) = let a : w (Θ x) ≤ live (bound 𝓢 (processOf ss)) Θ = unfold live in rest-elem S x (bound 𝓢 (processOf ss)) (λ x. w (Θ x)) k o in let b = sm .0 in omega arith
-            go (inr i) = sm .1 x i
+            go : In x (bound 𝓢 (processOf ss)) ⊎ NotIn x (bound 𝓢 (processOf ss)) → w (Θ x) ≤ length ss
+            go (inr o) = let a : w (Θ x) ≤ live (bound 𝓢 (processOf ss)) Θ = unfold live in rest-elem S x (bound 𝓢 (processOf ss)) (λ x. w (Θ x)) k o in let b = sm .0 in omega arith
+            go (inl i) = sm .1 x i
 
   each-some : {P : Env 𝓢 → Type 0} {o : Option (Env 𝓢)} {Γ : Env 𝓢} → Each P o → o ≡ some Γ → P Γ
   each-some {P} {o} {Γ} ea-none e = absurd (Option·none-ne-some Γ e)

@@ -2,7 +2,7 @@
 -- exactly if those of the entries inside it are. Assumes nothing.
 use mathlib.Core.Path.{_≡_, refl, sym, _∙_}
 use mathlib.Core.Bool.{Bool, true, false, _||_}
-use mathlib.Core.List.{List, [], _∷_}
+use mathlib.Core.List.{List}
 use mathlib.Core.Logic.{_⊎_, inl, inr}
 use Prim.Native.Nat.{ℕ, zero, suc, _≤_, _<_}
 use native.Mathlib.Omega.{arith}
@@ -10,9 +10,10 @@ use lib.Dec.{eqb}
 use borrow.Author.Tests.{eq-eqb, ne-eqb, eqb-true, eqb-false}
 use Rattle.calculus.specs.Signature.{Signature, Two}
 use Rattle.calculus.specs.Terms.{build1, build2}
-use Rattle.calculus.specs.Tables.{Entry, leafEntry, kindEntry, entryAt, Lower, low-one, low-two, Closed}
-use Rattle.calculus.specs.Scope.{In, here, there}
-use Rattle.calculus.specs.Inference.{mark, marks, spread, down}
+use Rattle.calculus.specs.Tables.{isIn, Entry, leafEntry, kindEntry, entryAt, Lower, low-one, low-two, Closed}
+use Rattle.calculus.specs.Scope.{In}
+use Rattle.calculus.specs.Inference.{mark, spread, down}
+use Rattle.calculus.proofs.Lists.{in-true, in-is-in}
 use Rattle.calculus.proofs.TableLaws.{lower-all}
 
 -- ── Marks ──
@@ -39,20 +40,6 @@ mark-sound i m u e = go (eqb u i) refl e
 mark-other : (i : ℕ) (m : ℕ → Bool) (u : ℕ) → i < u → mark i m u ≡ m u
 unfolding mark
 mark-other i m u h = rw (ne-eqb u i (omega arith))
-
-marks-sound : (l : List ℕ) (u : ℕ) → marks l u ≡ true → In u l
-unfolding marks
-marks-sound [] u e = absurd (let z : _≡_ {A = ℕ} 0 1 = cc in omega arith)
-marks-sound (t ∷ l) u e = go (mark-sound t (marks l) u e) (λ g. marks-sound l u g)
-  where
-    go : (u ≡ t) ⊎ (marks l u ≡ true) → (marks l u ≡ true → In u l) → In u (t ∷ l)
-    go (inl g) r = rw g here
-    go (inr g) r = there (r g)
-
-marks-all : {l : List ℕ} {t : ℕ} → In t l → marks l t ≡ true
-unfolding marks
-marks-all {t = t} (here {l = l}) = mark-self t (marks l)
-marks-all {t = t} (there {y = x} {l = l} i) = mark-keeps x (marks l) t (marks-all i)
 
 module _ (𝓢 : Signature) where
   abbrev E : Type 0
@@ -172,18 +159,21 @@ module _ (𝓢 : Signature) where
 
     -- ── The marks of a list of entries below n ──
     module _ (n : ℕ) (l : List ℕ) where
+      abbrev roots : ℕ → Bool
+      roots u = isIn u l
+
       stands-part : (u i : ℕ) → Stands l u → Names i (entry u) → Stands l i
       stands-part u i (t, p, r) q = (t, p, inside-part r q)
 
-      roots-stand : (u : ℕ) → marks l u ≡ true → Stands l u
-      roots-stand u e = (u, marks-sound l u e, in-self)
+      roots-stand : (u : ℕ) → roots u ≡ true → Stands l u
+      roots-stand u e = (u, in-true u l e, in-self)
 
-      pub marked-stands : (u : ℕ) → down1 n (marks l) u ≡ true → Stands l u
-      marked-stands u e = down-sound (Stands l) stands-part n (marks l) roots-stand u e
+      pub marked-stands : (u : ℕ) → down1 n roots u ≡ true → Stands l u
+      marked-stands u e = down-sound (Stands l) stands-part n roots roots-stand u e
 
-      inside-marked : {t u : ℕ} → Inside t u → t < n → down1 n (marks l) t ≡ true → (u < n) × (down1 n (marks l) u ≡ true)
+      inside-marked : {t u : ℕ} → Inside t u → t < n → down1 n roots t ≡ true → (u < n) × (down1 n roots u ≡ true)
       inside-marked in-self h e = (h, e)
-      inside-marked (in-part {t = t} {i = i} q r) h e = let a = names-lower q (lower-all 𝓢 0 es closed t) in inside-marked r (omega arith) (down-closed n (marks l) t i h q e)
+      inside-marked (in-part {t = t} {i = i} q r) h e = let a = names-lower q (lower-all 𝓢 0 es closed t) in inside-marked r (omega arith) (down-closed n roots t i h q e)
 
-      pub stands-marked : ((t : ℕ) → In t l → t < n) → (u : ℕ) → Stands l u → (u < n) × (down1 n (marks l) u ≡ true)
-      stands-marked small u (t, p, r) = inside-marked r (small t p) (down-keeps n (marks l) t (marks-all p))
+      pub stands-marked : ((t : ℕ) → In t l → t < n) → (u : ℕ) → Stands l u → (u < n) × (down1 n roots u ≡ true)
+      stands-marked small u (t, p, r) = inside-marked r (small t p) (down-keeps n roots t (in-is-in t l p))

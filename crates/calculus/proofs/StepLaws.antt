@@ -18,7 +18,7 @@ use Rattle.calculus.proofs.Environments.{T, Env, Best, best-free, best-
 use Rattle.calculus.proofs.Inversion.{Shape, Keyed, ke-symbol, ke-one, ke-pair, ke-seal, has-shape, shape-has}
 use Rattle.calculus.proofs.PushLaws as push
 use Rattle.calculus.proofs.PushLaws.{sd-nil, sd-cons}
-use Rattle.calculus.proofs.Standing.{Names, na-one, na-left, na-right, names-lower, Inside, in-self, in-part, Stands, marked-stands, stands-marked}
+use Rattle.calculus.proofs.Standing.{Names, na-one, na-left, na-right, names-lower, Inside, in-self, in-part, marked-stands, stands-marked}
 
 module _ (𝓢 : Signature) (laws : SignatureLaws 𝓢) (es : List (Entry 𝓢 ℕ)) (closed : Closed 𝓢 0 es) where
   open Signature 𝓢 using (types, One, part, Seal, sealing)
@@ -34,9 +34,6 @@ module _ (𝓢 : Signature) (laws : SignatureLaws 𝓢) (es : List (Entry 𝓢 �
 
   abbrev pub Shaped : Env 𝓢 → List (Want 𝓢) → Type 0
   Shaped = push.Shaped 𝓢 laws es closed
-
-  abbrev Standing : List ℕ → ℕ → Type 0
-  Standing = Stands 𝓢 es closed
 
   -- what an entry wants of its own parts is met
   abbrev pub InnerMet : Env 𝓢 → ℕ → Type 0

@@ -1,7 +1,7 @@
 -- What Figure 2 asks of one step, as wants: a typing of a step and the rest is the step's wants met and a typing of the rest; and a symbol that no term
 -- of the step holds keeps its type. Assumes the laws of the kinds.
 use mathlib.Core.Path.{_≡_, refl}
-use mathlib.Core.List.{List, [], _∷_, _++_, map}
+use mathlib.Core.List.{List, [], _∷_, map}
 use mathlib.Core.Logic.{_⊎_, inl, inr}
 use Prim.Native.Nat.{ℕ}
 use native.Mathlib.Decide.{ℕ-discrete}
@@ -10,31 +10,21 @@ use Rattle.types.proofs.TypeLaws.{<:-antisym}
 use Rattle.calculus.specs.Signature.{Signature, SignatureLaws}
 use Rattle.calculus.specs.Terms.{Term, Act, send, receive, fresh, compare, split, decrypt, mapAct, operands, binders, bound, Step, Process}
 use Rattle.calculus.specs.Tables.{Entry, Closed, meaning}
-use Rattle.calculus.specs.Scope.{In, here, there, All, all-cons, Lacks, Scoped, sc-step}
+use Rattle.calculus.specs.Scope.{In, here, there, All, Lacks, Scoped, sc-step}
 use Rattle.calculus.specs.Figure2.{_<:_ as Sub, _⊢_∶_ as Has, T-Sub, extend}
 use Rattle.calculus.specs.Typing.{Typed, P-Nil, P-Out, P-In, P-Restr, P-Match, P-PSplit, P-ShKD, Below}
 use Rattle.calculus.specs.Inference.{Want, want, wants}
+use Rattle.calculus.proofs.Lists.{all-split, in-append-left, in-append-right}
 use Rattle.calculus.proofs.Environments.{T, Env, sub-refl, sub-trans, extend-same, extend-other, extend-below}
 use Rattle.calculus.proofs.Inversion.{has-down, has-agree}
 use Rattle.calculus.proofs.StepLaws as step
 use Rattle.calculus.proofs.StepLaws.{me-nil, me-cons}
 
-pub all-split : {A : Type 0} {P : A → Type 0} {x : A} {l : List A} → All P (x ∷ l) → P x × All P l
-all-split (all-cons p q) = (p, q)
-
 module _ (𝓢 : Signature) where
   -- ── Lists of steps ──
-  in-append-left : {x : ℕ} (a b : List ℕ) → In x a → In x (a ++ b)
-  in-append-left (y ∷ a) b here = here
-  in-append-left (y ∷ a) b (there i) = there (in-append-left a b i)
-
-  in-append-right : {x : ℕ} (a : List ℕ) {b : List ℕ} → In x b → In x (a ++ b)
-  in-append-right [] i = i
-  in-append-right (y ∷ a) i = there (in-append-right a i)
-
   pub bound-here : {x : ℕ} (s : Step 𝓢) (P : Process 𝓢) → In x (binders 𝓢 s) → In x (bound 𝓢 (s ∷ P))
   unfolding bound
-  bound-here s P i = in-append-left (binders 𝓢 s) (bound 𝓢 P) i
+  bound-here s P i = in-append-left (bound 𝓢 P) i
 
   pub bound-there : {x : ℕ} (s : Step 𝓢) (P : Process 𝓢) → In x (bound 𝓢 P) → In x (bound 𝓢 (s ∷ P))
   unfolding bound

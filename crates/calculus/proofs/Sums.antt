@@ -5,76 +5,63 @@ use mathlib.Core.List.{List, [], _∷_, _++_}
 use Prim.Native.Nat.{ℕ, zero, suc, _+_, _≤_, _<_}
 use native.Mathlib.Decide.{ℕ-discrete}
 use native.Mathlib.Omega.{arith}
-use Rattle.calculus.specs.Scope.{In, here, there, all-nil, all-cons, NotIn, Distinct, di-cons}
+use Rattle.calculus.specs.Scope.{In, here, there, all-cons, NotIn, Distinct, di-cons}
+use Rattle.calculus.proofs.Lists.{in-or-not, not-in-in}
 
 unfoldable pub sum : List ℕ → (ℕ → ℕ) → ℕ
 sum [] f = 0
 sum (x ∷ xs) f = f x + sum xs f
 
--- not in a list, or in it
-pub in? : (x : ℕ) (l : List ℕ) → NotIn x l ⊎ In x l
-in? x [] = inl all-nil
-in? x (y ∷ l) = go (ℕ-discrete x y) (in? x l)
-  where
-    go : Dec (x ≡ y) → NotIn x l ⊎ In x l → NotIn x (y ∷ l) ⊎ In x (y ∷ l)
-    go (yes e) d = inr (rw e here)
-    go (no n) (inl o) = inl (all-cons n o)
-    go (no n) (inr i) = inr (there i)
-
-unfoldable pub mask : {x : ℕ} {l : List ℕ} → NotIn x l ⊎ In x l → ℕ → ℕ
-mask (inl o) n = n
-mask (inr i) n = 0
+unfoldable pub mask : {x : ℕ} {l : List ℕ} → In x l ⊎ NotIn x l → ℕ → ℕ
+mask (inr o) n = n
+mask (inl i) n = 0
 
 -- the sum of f over the symbols below n that are not in l
 unfoldable pub rest : ℕ → List ℕ → (ℕ → ℕ) → ℕ
 rest zero l f = 0
-rest (suc n) l f = mask (in? n l) (f n) + rest n l f
+rest (suc n) l f = mask (in-or-not n l) (f n) + rest n l f
 
-out-in : {x : ℕ} {l : List ℕ} → NotIn x l → In x l → ⊥
-out-in (all-cons n o) here = n refl
-out-in (all-cons n o) (there i) = out-in o i
-
-mask-in : {x : ℕ} {l : List ℕ} (v : ℕ) → In x l → (d : NotIn x l ⊎ In x l) → mask d v ≡ 0
+mask-in : {x : ℕ} {l : List ℕ} (v : ℕ) → In x l → (d : In x l ⊎ NotIn x l) → mask d v ≡ 0
 unfolding mask
-mask-in v i (inl o) = absurd (out-in o i)
-mask-in v i (inr j) = refl
+mask-in v i (inr o) = absurd (not-in-in o i)
+mask-in v i (inl j) = refl
 
-mask-out : {x : ℕ} {l : List ℕ} (v : ℕ) → NotIn x l → (d : NotIn x l ⊎ In x l) → mask d v ≡ v
+mask-out : {x : ℕ} {l : List ℕ} (v : ℕ) → NotIn x l → (d : In x l ⊎ NotIn x l) → mask d v ≡ v
 unfolding mask
-mask-out v o (inl p) = refl
-mask-out v o (inr i) = absurd (out-in o i)
+mask-out v o (inr p) = refl
+mask-out v o (inl i) = absurd (not-in-in o i)
 
-mask-le : {x : ℕ} {l : List ℕ} (a b k : ℕ) → a ≤ b + k → (d : NotIn x l ⊎ In x l) → mask d a ≤ mask d b + k
+mask-le : {x : ℕ} {l : List ℕ} (a b k : ℕ) → a ≤ b + k → (d : In x l ⊎ NotIn x l) → mask d a ≤ mask d b + k
 unfolding mask
-mask-le a b k h (inl o) = h
-mask-le a b k h (inr i) = omega arith
+mask-le a b k h (inr o) = h
+mask-le a b k h (inl i) = omega arith
 
-mask-more : {x y : ℕ} {l : List ℕ} (v : ℕ) (d : NotIn x (y ∷ l) ⊎ In x (y ∷ l)) (e : NotIn x l ⊎ In x l) → mask d v ≤ mask e v
+mask-more : {x y : ℕ} {l : List ℕ} (v : ℕ) (d : In x (y ∷ l) ⊎ NotIn x (y ∷ l)) (e : In x l ⊎ NotIn x l) → mask d v ≤ mask e v
 unfolding mask
-mask-more v (inr i) e = omega arith
-mask-more v (inl o) (inl p) = omega arith
-mask-more v (inl (all-cons n o)) (inr i) = absurd (out-in o i)
+mask-more v (inl i) e = omega arith
+mask-more v (inr o) (inr p) = omega arith
+mask-more v (inr (all-cons n o)) (inl i) = absurd (not-in-in o i)
 
 rest-le : (n : ℕ) (l : List ℕ) (f g : ℕ → ℕ) → ((y : ℕ) → y < n → g y ≤ f y) → rest n l g ≤ rest n l f
 unfolding rest
 rest-le zero l f g h = omega arith
 rest-le (suc n) l f g h = let a = rest-le n l f g (λ y k. h y (omega arith)) in
-    let b = mask-le (g n) (f n) 0 (let c = h n (omega arith) in omega arith) (in? n l) in omega arith
+    let b = mask-le (g n) (f n) 0 (let c = h n (omega arith) in omega arith) (in-or-not n l) in omega arith
 
 pub rest-bump : (n : ℕ) (l : List ℕ) (f g : ℕ → ℕ) (x k : ℕ) → ((y : ℕ) → ¬ (x ≡ y) → g y ≤ f y) → g x ≤ f x + k → rest n l g ≤ rest n l f + k
 unfolding rest
 rest-bump zero l f g x k h e = omega arith
 rest-bump (suc n) l f g x k h e = go (ℕ-discrete x n) (rest-bump n l f g x k h e)
   where
-    go : Dec (x ≡ n) → rest n l g ≤ rest n l f + k → mask (in? n l) (g n) + rest n l g ≤ mask (in? n l) (f n) + rest n l f + k
-    go (yes p) r = let a = mask-le (g n) (f n) k (rw p at e) (in? n l) in
+    go : Dec (x ≡ n) → rest n l g ≤ rest n l f + k → mask (in-or-not n l) (g n) + rest n l g ≤ mask (in-or-not n l) (f n) + rest n l f + k
+    go (yes p) r = let a = mask-le (g n) (f n) k (rw p at e) (in-or-not n l) in
         let b = rest-le n l f g (λ y m. h y (omega arith)) in omega arith
-    go (no q) r = let a = mask-le (g n) (f n) 0 (let c = h n q in omega arith) (in? n l) in omega arith
+    go (no q) r = let a = mask-le (g n) (f n) 0 (let c = h n q in omega arith) (in-or-not n l) in omega arith
 
 rest-more : (n x : ℕ) (l : List ℕ) (f : ℕ → ℕ) → rest n (x ∷ l) f ≤ rest n l f
 unfolding rest
 rest-more zero x l f = omega arith
-rest-more (suc n) x l f = let a = rest-more n x l f in let b = mask-more (f n) (in? n (x ∷ l)) (in? n l) in omega arith
+rest-more (suc n) x l f = let a = rest-more n x l f in let b = mask-more (f n) (in-or-not n (x ∷ l)) (in-or-not n l) in omega arith
 
 rest-drop : (n x : ℕ) (l : List ℕ) (f : ℕ → ℕ) → x < n → NotIn x l → rest n (x ∷ l) f + f x ≤ rest n l f
 unfolding rest
@@ -82,10 +69,10 @@ rest-drop zero x l f h o = omega arith
 rest-drop (suc n) x l f h o = go (ℕ-discrete x n) (λ k. rest-drop n x l f k o)
   where
     go : Dec (x ≡ n) → (x < n → rest n (x ∷ l) f + f x ≤ rest n l f)
-        → mask (in? n (x ∷ l)) (f n) + rest n (x ∷ l) f + f x ≤ mask (in? n l) (f n) + rest n l f
-    go (yes p) r = let a = mask-out (f n) (rw p at o) (in? n l) in let b = mask-in (f n) (rw p here) (in? n (x ∷ l)) in
+        → mask (in-or-not n (x ∷ l)) (f n) + rest n (x ∷ l) f + f x ≤ mask (in-or-not n l) (f n) + rest n l f
+    go (yes p) r = let a = mask-out (f n) (rw p at o) (in-or-not n l) in let b = mask-in (f n) (rw p here) (in-or-not n (x ∷ l)) in
         let c = rest-more n x l f in let e = ap f p in omega arith
-    go (no q) r = let a = mask-more (f n) (in? n (x ∷ l)) (in? n l) in let b = r (omega arith) in omega arith
+    go (no q) r = let a = mask-more (f n) (in-or-not n (x ∷ l)) (in-or-not n l) in let b = r (omega arith) in omega arith
 
 pub rest-drops : (n : ℕ) (xs l : List ℕ) (f : ℕ → ℕ) → ((x : ℕ) → In x xs → x < n) → Distinct (xs ++ l) → rest n (xs ++ l) f + sum xs f ≤ rest n l f
 unfolding sum
@@ -98,15 +85,15 @@ rest-drops n (x ∷ xs) l f h u = go u (λ v. rest-drops n xs l f (λ y i. h y (
 pub rest-elem : (n x : ℕ) (l : List ℕ) (f : ℕ → ℕ) → x < n → NotIn x l → f x ≤ rest n l f
 rest-elem n x l f h o = let a = rest-drop n x l f h o in omega arith
 
-mask-zero : {x : ℕ} {l : List ℕ} (d : NotIn x l ⊎ In x l) → mask d 0 ≡ 0
+mask-zero : {x : ℕ} {l : List ℕ} (d : In x l ⊎ NotIn x l) → mask d 0 ≡ 0
 unfolding mask
-mask-zero (inl o) = refl
-mask-zero (inr i) = refl
+mask-zero (inr o) = refl
+mask-zero (inl i) = refl
 
 pub rest-zero : (n : ℕ) (l : List ℕ) (f : ℕ → ℕ) → ((x : ℕ) → f x ≡ 0) → rest n l f ≡ 0
 unfolding rest
 rest-zero zero l f h = refl
-rest-zero (suc n) l f h = let a = rest-zero n l f h in let b = mask-le (f n) 0 0 (let c = h n in omega arith) (in? n l) in let c = mask-zero (in? n l) in omega arith
+rest-zero (suc n) l f h = let a = rest-zero n l f h in let b = mask-le (f n) 0 0 (let c = h n in omega arith) (in-or-not n l) in let c = mask-zero (in-or-not n l) in omega arith
 
 pub sum-elem : {x : ℕ} (l : List ℕ) (f : ℕ → ℕ) → In x l → f x ≤ sum l f
 unfolding sum

@@ -1,6 +1,6 @@
--- Proofs of the statements of specs/Tables.antt: what entries stand for. Assumes nothing.
+-- Proofs of the statements of specs/Tables.antt: what entries stand for; and what steps bind over other operands. Assumes nothing.
 use mathlib.Core.Path.{_≡_, refl, sym, ap, _∙_}
-use mathlib.Core.List.{List, [], _∷_, _++_, append-assoc, append-nil}
+use mathlib.Core.List.{List, [], _∷_, _++_, map, append-assoc, append-nil}
 use Prim.Native.Nat.{ℕ, zero, suc, _+_, _<_, _≤_}
 use native.Mathlib.Nat.{zero-add, add-zero}
 use native.Mathlib.Decide.{decLt}
@@ -8,7 +8,7 @@ use native.Mathlib.Omega.{arith}
 use lib.ListN.{length, length-append, List·getD-append, List·getD-eq-default}
 use lib.Seq.{getD-append-add}
 use Rattle.calculus.specs.Signature.{Signature, Two}
-use Rattle.calculus.specs.Terms.{Tree, leaf, one, two, build1, build2, mapBuild, built}
+use Rattle.calculus.specs.Terms.{Tree, leaf, one, two, build1, build2, mapBuild, built, Act, send, receive, fresh, compare, split, decrypt, mapAct, binders, bound}
 use Rattle.calculus.specs.Tables.{Entry, leafEntry, kindEntry, entryTree, entryAt, treeAt, treesFrom, trees, denoted, Lower, low-leaf, low-one, low-two, Closed, Unrepeated, DenotedByEntries, EqualTreesEqualIndexes}
 
 module _ (𝓢 : Signature) {L : Type 0} (z : L) where
@@ -144,3 +144,22 @@ module _ (𝓢 : Signature) {L : Type 0} (z : L) where
 
     pub equal-trees-equal-indexes : EqualTreesEqualIndexes 𝓢 z es
     equal-trees-equal-indexes low once i j p q e = index-once low once (denoted 𝓢 z es j) i j p q e refl
+
+-- ── Steps over other operands ──
+
+module _ (𝓢 : Signature) where
+  -- a step binds the same symbols
+  pub binders-map : {X Y : Type 0} (f : X → Y) (a : Act 𝓢 X) → binders 𝓢 (mapAct 𝓢 f a) ≡ binders 𝓢 a
+  unfolding binders mapAct
+  binders-map f (send a b) = refl
+  binders-map f (receive a x) = refl
+  binders-map f (fresh x) = refl
+  binders-map f (compare a b) = refl
+  binders-map f (split a x y) = refl
+  binders-map f (decrypt s a b x) = refl
+
+  -- so do steps
+  pub bound-map : {A B : Type 0} (f : A → B) (P : List (Act 𝓢 A)) → bound 𝓢 (map (mapAct 𝓢 f) P) ≡ bound 𝓢 P
+  unfolding bound
+  bound-map f [] = refl
+  bound-map f (s ∷ P) = rw (bound-map f P, binders-map f s)

@@ -10,11 +10,12 @@ use Rattle.calculus.specs.Signature.{SignatureLaws}
 use Rattle.calculus.specs.Terms.{Process}
 use Rattle.calculus.specs.Tables.{Table}
 use Rattle.calculus.specs.Figure2.{Env}
-use Rattle.calculus.specs.Typing.{Checked, widest, AnswerIs, NoSecondAnswer, PrintedIsOneEnvironment}
+use Rattle.calculus.specs.Typing.{Checked, widest, AnswerIs, NoSecondAnswer, PrintedIsOneEnvironment, TypedAsPrinted}
 use Rattle.calculus.specs.Inference.{InferenceIsGreatest, InferenceIsRight}
 use Rattle.calculus.specs.Version1.{One1, signature1}
 use Rattle.calculus.proofs.InferenceLaws.{inference-is-greatest, inference-is-right, no-second-answer}
 use Rattle.calculus.proofs.OneEnvironment.{printed-is-one-environment}
+use Rattle.calculus.proofs.Bounded.{typed-as-printed}
 use Rattle.calculus.proofs.SizeLaws.{small-types}
 
 flat1 : (k : One1) → nodes types1 Message ≡ 1
@@ -34,6 +35,9 @@ one-answer1 = no-second-answer signature1 laws1
 
 pub printed1 : (P : Process signature1) → PrintedIsOneEnvironment signature1 P
 printed1 = printed-is-one-environment signature1
+
+pub typed-as-printed1 : (t : Table signature1) → TypedAsPrinted signature1 t
+typed-as-printed1 = typed-as-printed signature1
 
 -- a symbol's type has at most 2P + 1 bytes
 pub small-bytes1 : (t : Table signature1) → Checked signature1 t → (Γ : Env signature1) → AnswerIs signature1 t (widest Γ) → (x : ℕ) → length (bytes (Γ x)) ≤ 2 * length (t .steps) + 1

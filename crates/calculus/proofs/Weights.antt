@@ -6,7 +6,6 @@ use native.Mathlib.Omega.{arith}
 use Rattle.types.specs.Forest.{lowerOf}
 use Rattle.types.specs.Types.{TypeTable, Ty, Message, Basic, Cipher, Pair, meet}
 use Rattle.types.specs.Prefix.{nodes}
-use Rattle.calculus.proofs.StepLaws as step
 
 -- an answer, if there is one, has a property
 pub data Each {A : Type 0} (P : A → Type 0) : Option A → Type 0 where

@@ -13,18 +13,13 @@ use Rattle.types.specs.Forest.{under}
 use Rattle.types.specs.Types.{Message, Basic, Cipher, Pair, meet}
 use Rattle.calculus.specs.Signature.{Signature, pairing, seal}
 use Rattle.calculus.specs.Terms.{build1, build2, Act, send, receive, fresh, compare, split, decrypt, operands}
-use Rattle.calculus.specs.Tables.{Entry, leafEntry, kindEntry, entryAt, Table}
+use Rattle.calculus.specs.Tables.{isIn, Entry, leafEntry, kindEntry, entryAt, Table}
 use Rattle.calculus.specs.Figure2.{T as Types, Env as Envs, extend}
 use Rattle.calculus.specs.Typing.{start, Below, TypingFrom, Checked, Answer, widest, untyped, AnswerIs}
 
 -- i is marked too
 unfoldable pub mark : ℕ → (ℕ → Bool) → ℕ → Bool
 mark i m u = eqb u i || m u
-
--- just the indexes of a list are marked
-unfoldable pub marks : List ℕ → ℕ → Bool
-marks [] = λ u. false
-marks (i ∷ l) = mark i (marks l)
 
 module _ (𝓢 : Signature) where
   open Signature 𝓢 using (types, One, part, result, Seal, former, sealing, opening, name, channel)
@@ -78,7 +73,7 @@ module _ (𝓢 : Signature) where
 
     -- the entries inside the terms of a step
     abbrev pub standing : ℕ → Act 𝓢 ℕ → ℕ → Bool
-    standing n s = down n (marks (operands 𝓢 s))
+    standing n s = down n (λ u. isIn u (operands 𝓢 s))
 
   -- ── A wanted type pushed down an entry ──
 

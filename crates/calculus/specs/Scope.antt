@@ -2,10 +2,11 @@
 -- a step holds a symbol bound in that step or later (fault 9). Assumes nothing.
 use mathlib.Core.Path.{_≡_}
 use mathlib.Core.List.{List, [], _∷_}
+use mathlib.Core.Logic.{_⊎_}
 use Prim.Native.Nat.{ℕ}
 use Rattle.calculus.specs.Signature.{Signature, Two}
-use Rattle.calculus.specs.Terms.{leaf, one, two, Term, Act, fresh, operands, bound, Step, Process}
-use Rattle.calculus.specs.Tables.{Sort, is-name, sortOf}
+use Rattle.calculus.specs.Terms.{leaf, one, two, Term, Act, fresh, operands, binders, bound, Step, Process}
+use Rattle.calculus.specs.Tables.{Sort, is-name, is-variable, sortOf}
 
 -- x is in a list
 pub data In {A : Type 0} (x : A) : List A → Type 0 where
@@ -45,3 +46,7 @@ module _ (𝓢 : Signature) where
   -- restriction binds names (part of fault 5)
   abbrev pub RestrictsNames : List Sort → List (Act 𝓢 ℕ) → Type 0
   RestrictsNames so ss = (x : ℕ) → In (fresh x) ss → sortOf so x ≡ is-name
+
+  -- the other steps bind variables (part of fault 5)
+  abbrev pub BindsVariables : List Sort → List (Act 𝓢 ℕ) → Type 0
+  BindsVariables so ss = (s : Act 𝓢 ℕ) (x : ℕ) → In s ss → In x (binders 𝓢 s) → (s ≡ fresh x) ⊎ (sortOf so x ≡ is-variable)

@@ -39,7 +39,6 @@ pub record Signature : Type 1 where
   pub channel : types .forest .Base
 
 -- the laws of a table: the basic types are a forest, and no kind with one part needs more of it than a basic type or Message
--- a table of kinds
 pub record SignatureLaws (𝓢 : Signature) : Type 0 where
   pub falls : Falls (𝓢 .types .forest)
   pub flat : (k : 𝓢 .One) → nodes (𝓢 .types) (𝓢 .part k) ≡ 1

@@ -32,10 +32,7 @@ module _ (𝓢 : Signature) where
   abbrev pub Value : Type 0
   Value = Tree Atom
 
-  -- equality of terms, and of values, is decided
-  abbrev pub sameTerm : Discrete Term
-  sameTerm = sameTree ℕ-discrete sameOne (sameTwo sameSeal)
-
+  -- equality of values is decided
   abbrev pub sameValue : Discrete Value
   sameValue = sameTree (sameAtom ℕ-discrete) sameOne (sameTwo sameSeal)
 

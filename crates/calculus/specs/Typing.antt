@@ -10,7 +10,7 @@ use Rattle.types.specs.Prefix.{nodes}
 use Rattle.calculus.specs.Signature.{Signature}
 use Rattle.calculus.specs.Terms.{Term, Act, send, receive, fresh, compare, split, decrypt, operands, bound, Process}
 use Rattle.calculus.specs.Tables.{Sort, is-name, is-variable, sortOf, Closed, Table, process, processFrom}
-use Rattle.calculus.specs.Scope.{In, NotIn, BindsOnce, Scoped, RestrictsNames}
+use Rattle.calculus.specs.Scope.{In, NotIn, BindsOnce, Scoped, RestrictsNames, BindsVariables}
 use Rattle.calculus.specs.Figure2.{T as Types, Env as Envs, _<:_ as Sub, _⊢_∶_ as Has, Printed}
 
 module _ (𝓢 : Signature) where
@@ -55,6 +55,10 @@ module _ (𝓢 : Signature) where
   abbrev pub TypingFrom : Table 𝓢 → ℕ → Env → Type 0
   TypingFrom t i Γ = Below Γ (start (t .sorts)) × Typed Γ (processFrom 𝓢 t i)
 
+  -- the same by the printed rules: Γ is what the derivation starts from, free symbols' types and those of earlier binders
+  abbrev pub PrintedFrom : Table 𝓢 → ℕ → Env → Type 0
+  PrintedFrom t i Γ = Below Γ (start (t .sorts)) × Printed 𝓢 Γ (processFrom 𝓢 t i)
+
   -- what the checks of a table leave (numbers 5, 8 and 9), as far as typing needs it
   pub record Checked (t : Table 𝓢) : Type 0 where
     pub closed : Closed 𝓢 0 (t .entries)
@@ -89,3 +93,8 @@ module _ (𝓢 : Signature) where
   abbrev pub PrintedIsOneEnvironment : Process 𝓢 → Type 0
   PrintedIsOneEnvironment P = Scoped 𝓢 P → BindsOnce 𝓢 P → (Γ : Env)
       → Printed 𝓢 Γ P ↔ ((Δ : Env) × ((x : ℕ) → NotIn x (bound 𝓢 P) → Δ x ≡ Γ x) × Typed Δ P)
+
+  -- and of a checked table: from any step on, what Figure 2 types as it is printed, one environment types, and the other way round. The printed rules
+  -- bound the names' types at the start and at restriction only; the other binders keep the bound since they bind variables
+  abbrev pub TypedAsPrinted : Table 𝓢 → Type 0
+  TypedAsPrinted t = Checked t → BindsVariables 𝓢 (t .sorts) (t .steps) → (i : ℕ) → ((Γ : Env) × PrintedFrom t i Γ) ↔ ((Δ : Env) × TypingFrom t i Δ)

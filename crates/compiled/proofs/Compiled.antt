@@ -18,9 +18,9 @@ use Rattle.calculus.specs.Terms.{leaf, Term, bound}
 use Rattle.calculus.specs.Tables.{denoted, process, free}
 use Rattle.calculus.specs.Scope.{All}
 use Rattle.calculus.specs.Version1.{signature1}
+use Rattle.calculus.proofs.TableLaws.{bound-map}
 use Rattle.rendering.specs.Rendering.{halves}
 use Rattle.rendering.specs.Translation.{translation}
-use Rattle.rendering.proofs.FreeLaws.{bound-map}
 use Rattle.rendering.proofs.Version1Laws.{translation-is-faithful1, translation-fits1}
 use Rattle.decoded.specs.Table.{sortAt, stepAt, tableOf, freeCount}
 use Rattle.decoded.proofs.Checked.{table-checked}

@@ -11,10 +11,10 @@ use Rattle.calculus.specs.Terms.{leaf, Term, Build, built, mapBuild, Act, send,
 use Rattle.calculus.specs.Tables.{Entry}
 use Rattle.calculus.specs.Scope.{All, all-nil, all-cons}
 use Rattle.calculus.specs.Version1.{signature1}
+use Rattle.calculus.proofs.Lists.{all-append}
 use Rattle.rendering.specs.Rendering.{halves, Due, whole, part, binds, duesOf, dues, Says, says-act, says-half, Dues, Follows, no-more, permitted, next-due}
 use Rattle.rendering.specs.Translation.{parts, registers}
 use Rattle.rendering.proofs.ActLaws.{ActZip, zip-send, zip-receive, zip-fresh, zip-compare, zip-split, zip-decrypt, BuildZip, zip-one, zip-two, zip-acts, zip-builds}
-use Rattle.rendering.proofs.Base.{all-append}
 use Rattle.decoded_list.specs.Form.{symbolsNamed, registersGiven, StatementFits, StatementsFit, fit-none, fit-one}
 
 -- an act is a split

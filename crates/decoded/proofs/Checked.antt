@@ -15,18 +15,20 @@ use Rattle.calculus.specs.Tables.{is-name, sortOf, process, meaning}
 use Rattle.calculus.specs.Scope.{In, All, Distinct, di-nil, Lacks, BindsOnce, Scoped, sc-nil, sc-step, RestrictsNames}
 use Rattle.calculus.specs.Typing.{Checked}
 use Rattle.calculus.specs.Version1.{signature1}
+use Rattle.calculus.proofs.Lists.{all-of, all-in, not-in, distinct-append}
+use Rattle.calculus.proofs.TableLaws.{bound-map}
 use Rattle.entries.specs.Tiling.{listed}
 use Rattle.decoded.specs.Table.{sortOf as sortByte, sortAt, stepAt, tableOf}
 use Rattle.decoded.specs.Meaning.{Uses, Binds}
 use Rattle.decoded.proofs.Tests.{clash}
-use Rattle.decoded.proofs.Listed.{all-in, listed-in, distinct-two}
+use Rattle.decoded.proofs.Listed.{listed-in}
 use Rattle.decoded.proofs.Binding.{binds-new-means}
 use Rattle.decoded.proofs.Scoping.{in-scope-means}
 use Rattle.decoded.proofs.Passed.{Entered, Passed, table-passed}
 use Rattle.decoded.proofs.Ranges.{parts-lower, terms-there, binder-there, name-bound}
 use Rattle.decoded.proofs.Shapes.{step-uses, step-binds, step-apart, step-fresh}
 use Rattle.decoded.proofs.Holding.{termOf, entries-length, table-closed, lacks-unheld}
-use Rattle.decoded.proofs.Steps.{sort-at, bound-mapped, operands-mapped, bound-at}
+use Rattle.decoded.proofs.Steps.{sort-at, operands-mapped, bound-at}
 
 -- ── What 1 to 5 leave ──
 
@@ -37,7 +39,7 @@ module _ (s : List ℕ) (n : Entered s) where
       let (k, l, u, e) = listed-in (stepAt s) 0 (steps s) a in
       let h : k < steps s = omega arith in
       let c : In i (operands signature1 (stepAt s k)) = rw e at b in
-      rw (entries-length s) (terms-there s n k h i (all-in (step-uses s n k h) c))
+      rw (entries-length s) (terms-there s n k h i (all-in (step-uses s n k h) i c))
 
   -- restriction binds names
   name-sort : (x : ℕ) → x < symbols s → sort s x ≡ 0 → sortOf (tableOf s .sorts) x ≡ is-name
@@ -60,16 +62,16 @@ module _ (s : List ℕ) (p : Passed s) where
   unfolding bound listed
   bound-once i zero h = di-nil
   bound-once i (suc m) h =
-      distinct-two (binders signature1 (stepAt s i)) (bound signature1 (listed (stepAt s) (suc i) m))
-      (step-apart s (p .entered) i (omega arith) (binds-new-means s i .0 (p .each-new i (omega arith)))) (bound-once (suc i) m (omega arith)) λ x a b. apart x a b
+      distinct-append (step-apart s (p .entered) i (omega arith) (binds-new-means s i .0 (p .each-new i (omega arith)))) (bound-once (suc i) m (omega arith))
+      (all-of (binders signature1 (stepAt s i)) λ x a. not-in x (bound signature1 (listed (stepAt s) (suc i) m)) (apart x a))
     where
       apart : (x : ℕ) → In x (binders signature1 (stepAt s i)) → In x (bound signature1 (listed (stepAt s) (suc i) m)) → ⊥
       apart x a b =
           let (k, l, u, c) = bound-at s (p .entered) (suc i) m (omega arith) b in
-          binds-new-means s k .0 (p .each-new k (omega arith)) .not-earlier x i c (omega arith) (all-in (step-binds s (p .entered) i (omega arith)) a)
+          binds-new-means s k .0 (p .each-new k (omega arith)) .not-earlier x i c (omega arith) (all-in (step-binds s (p .entered) i (omega arith)) x a)
 
   once : BindsOnce signature1 (process signature1 (tableOf s))
-  once = rw (bound-mapped (termOf s) (tableOf s .steps)) (bound-once 0 (steps s) (omega arith))
+  once = rw (bound-map signature1 (termOf s) (tableOf s .steps)) (bound-once 0 (steps s) (omega arith))
 
   -- no step is out of scope
   step-scoped : (i x : ℕ) → i < steps s → (k : ℕ) → i ≤ k → k < steps s → Binds s k x
@@ -90,7 +92,7 @@ module _ (s : List ℕ) (p : Passed s) where
       here-scoped : (x : ℕ) → In x (bound signature1 (meaning signature1 (tableOf s .entries) (stepAt s i ∷ listed (stepAt s) (suc i) m)))
           → All (Lacks signature1 x) (operands signature1 (mapAct signature1 (termOf s) (stepAt s i)))
       here-scoped x a =
-          let b : In x (bound signature1 (stepAt s i ∷ listed (stepAt s) (suc i) m)) = rw (bound-mapped (termOf s) (stepAt s i ∷ listed (stepAt s) (suc i) m)) at a in
+          let b : In x (bound signature1 (stepAt s i ∷ listed (stepAt s) (suc i) m)) = rw (bound-map signature1 (termOf s) (stepAt s i ∷ listed (stepAt s) (suc i) m)) at a in
           let (k, l, u, c) = bound-at s (p .entered) i (suc m) h b in
           step-scoped i x (omega arith) k l (omega arith) c
 

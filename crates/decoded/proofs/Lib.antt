@@ -13,6 +13,7 @@ pub mod Shapes
 pub mod EntryTests
 pub mod Holding
 pub mod Steps
+pub mod Sorts
 pub mod Tiling
 pub mod Written
 -- what 6 to 9 leave

@@ -3,13 +3,11 @@
 use mathlib.Core.Path.{_≡_, refl}
 use mathlib.Core.Bool.{Bool, true, false, cond}
 use mathlib.Core.Logic.{_↔_, _⊎_, inl, inr}
-use mathlib.Core.List.{List, [], _∷_, _++_, map}
-use Prim.Native.Nat.{ℕ, zero, suc, _+_, _-_, _≤_, _<_}
+use mathlib.Core.List.{List, [], _∷_, _++_}
+use Prim.Native.Nat.{ℕ, zero, suc, _+_, _≤_, _<_}
 use native.Mathlib.Nat.{eq-or-lt-of-le}
 use native.Mathlib.Omega.{arith}
-use lib.Dec.{eqb}
-use lib.ListN.{length, getD, drop}
-use borrow.Author.Tests.{eqb-true, eq-eqb}
+use lib.ListN.{length, getD}
 use Rattle.base.specs.Bytes.{byte}
 use Rattle.codes.specs.Rows.{cell, noRole, termRole as stepTermRole}
 use Rattle.table_layout.specs.Layout.{symbols, steps, stepField, stepRole}
@@ -17,12 +15,13 @@ use Rattle.calculus.specs.Terms.{Term, Act, send, receive, fresh, compare, spli
 use Rattle.calculus.specs.Tables.{Sort, is-variable, sortOf, isIn, missing}
 use Rattle.calculus.specs.Scope.{In, here, there, All, all-nil, all-cons}
 use Rattle.calculus.specs.Version1.{signature1}
+use Rattle.calculus.proofs.Lists.{all-in, in-cases, in-append-left, in-append-right, in-append, in-true, in-is-in}
 use Rattle.entries.specs.Tiling.{listed}
 use Rattle.decoded.specs.Table.{sortAt, stepAt, tableOf, stepBytes, freeOf}
 use Rattle.decoded.specs.Meaning.{Uses, Binder, Binds}
 use Rattle.decoded.proofs.Tests.{clash}
 use Rattle.entries.proofs.Tiling.{listed-length}
-use Rattle.decoded.proofs.Listed.{in-cases, all-in, listed-all-at, listed-drop, in-either, in-first, in-second}
+use Rattle.decoded.proofs.Listed.{listed-all-at}
 use Rattle.decoded.proofs.Passed.{Entered}
 use Rattle.decoded.proofs.Shapes.{fiveBytes, five-same, step-role, step-written, step-uses, step-binds}
 
@@ -35,32 +34,14 @@ sorts-length s = listed-length (sortAt s) 0 (symbols s)
 pub sort-at : (s : List ℕ) (x : ℕ) → x < symbols s → sortOf (tableOf s .sorts) x ≡ sortAt s x
 sort-at s x h = listed-all-at (sortAt s) is-variable (symbols s) x h
 
--- how many steps there are, each of them, and those from k on
+-- how many steps there are, and each of them
 pub steps-length : (s : List ℕ) → length (tableOf s .steps) ≡ steps s
 steps-length s = listed-length (stepAt s) 0 (steps s)
 
 pub step-at : (s : List ℕ) (d : Act signature1 ℕ) (k : ℕ) → k < steps s → getD (tableOf s .steps) k d ≡ stepAt s k
 step-at s d k h = listed-all-at (stepAt s) d (steps s) k h
 
-pub steps-from : (s : List ℕ) (k : ℕ) → drop k (tableOf s .steps) ≡ listed (stepAt s) k (steps s - k)
-steps-from s k = let z : 0 + k ≡ k = omega arith in rw z at (listed-drop (stepAt s) 0 (steps s) k)
-
 -- ── Steps over terms instead of indexes ──
-
-binders-mapped : (f : ℕ → Term signature1) (p : Act signature1 ℕ) → binders signature1 (mapAct signature1 f p) ≡ binders signature1 p
-unfolding binders mapAct
-binders-mapped f (send a b) = refl
-binders-mapped f (receive a x) = refl
-binders-mapped f (fresh x) = refl
-binders-mapped f (compare a b) = refl
-binders-mapped f (split a x y) = refl
-binders-mapped f (decrypt c a b x) = refl
-
--- a process binds what its steps bind
-pub bound-mapped : (f : ℕ → Term signature1) (ps : List (Act signature1 ℕ)) → bound signature1 (map (mapAct signature1 f) ps) ≡ bound signature1 ps
-unfolding bound
-bound-mapped f [] = refl
-bound-mapped f (p ∷ ps) = rw (binders-mapped f p, bound-mapped f ps)
 
 -- what all operands have, all operands over terms have
 pub operands-mapped : {P : ℕ → Type 0} {Q : Term signature1 → Type 0} (f : ℕ → Term signature1) → ((i : ℕ) → P i → Q (f i)) → (p : Act signature1 ℕ)
@@ -74,26 +55,6 @@ operands-mapped f g (split a x y) (all-cons u w) = all-cons (g a u) all-nil
 operands-mapped f g (decrypt c a b x) (all-cons u (all-cons v w)) = all-cons (g a u) (all-cons (g b v) all-nil)
 
 -- ── Symbols in a list, and those that are not ──
-
-is-in-in : (x : ℕ) (l : List ℕ) → isIn x l ≡ true → In x l
-unfolding isIn
-is-in-in x [] e = clash e refl
-is-in-in x (y ∷ l) e = go (eqb x y) refl e (λ q. is-in-in x l q)
-  where
-    go : (b : Bool) → eqb x y ≡ b → cond b true (isIn x l) ≡ true → (isIn x l ≡ true → In x l) → In x (y ∷ l)
-    go true q e r = let z : x ≡ y = eqb-true _ _ q in rw z here
-    go false q e r = there (r e)
-
-in-is-in : (x : ℕ) (l : List ℕ) → In x l → isIn x l ≡ true
-unfolding isIn
-in-is-in x [] i = elim i [ ]
-in-is-in x (y ∷ l) i = go (in-cases i) (eqb x y) refl (λ j. in-is-in x l j)
-  where
-    go : (x ≡ y) ⊎ In x l → (b : Bool) → eqb x y ≡ b → (In x l → isIn x l ≡ true) → cond b true (isIn x l) ≡ true
-    go (inl e) true q r = refl
-    go (inl e) false q r = clash (eq-eqb _ _ e) q
-    go (inr j) true q r = refl
-    go (inr j) false q r = r j
 
 missing-at : (x i : ℕ) (so : List Sort) (l : List ℕ) → In x (missing i so l) → (i ≤ x) × (x < i + length so) × (isIn x l ≡ false)
 unfolding missing
@@ -175,7 +136,7 @@ module _ (s : List ℕ) (k : ℕ) where
 module _ (s : List ℕ) (n : Entered s) where
   -- step k uses the terms that are its operands
   pub operands-mean : (k t : ℕ) → k < steps s → In t (operands signature1 (stepAt s k)) ↔ Uses s k t
-  operands-mean k t h = (λ i. all-in (step-uses s n k h) i, λ u. from (u .at) (u .among) (u .is-term) (u .names))
+  operands-mean k t h = (λ i. all-in (step-uses s n k h) t i, λ u. from (u .at) (u .among) (u .is-term) (u .names))
     where
       from : (j : ℕ) → j < 2 → stepRole s k j ≡ stepTermRole → stepField s k j ≡ t → In t (operands signature1 (stepAt s k))
       from zero u r e = rw e at (a-listed s k (stepAt s k) (step-written s n k h) r)
@@ -184,7 +145,7 @@ module _ (s : List ℕ) (n : Entered s) where
 
   -- and binds the symbols that are its binders
   pub binders-mean : (k x : ℕ) → k < steps s → In x (binders signature1 (stepAt s k)) ↔ Binds s k x
-  binders-mean k x h = (λ i. all-in (step-binds s n k h) i, λ b. from (b .at) (b .from) (b .among) (b .binds) (b .names))
+  binders-mean k x h = (λ i. all-in (step-binds s n k h) x i, λ b. from (b .at) (b .from) (b .among) (b .binds) (b .names))
     where
       from : (j : ℕ) → 2 ≤ j → j < 4 → Binder s k j → stepField s k j ≡ x → In x (binders signature1 (stepAt s k))
       from zero l u r e = absurd (omega arith)
@@ -197,12 +158,12 @@ module _ (s : List ℕ) (n : Entered s) where
   pub bound-at : {x : ℕ} (i m : ℕ) → i + m ≤ steps s → In x (bound signature1 (listed (stepAt s) i m)) → (k : ℕ) × (i ≤ k) × (k < i + m) × Binds s k x
   unfolding bound listed
   bound-at i zero h a = elim a [ ]
-  bound-at {x} i (suc m) h a = go (in-either (binders signature1 (stepAt s i)) a) (λ b. bound-at (suc i) m (omega arith) b)
+  bound-at {x} i (suc m) h a = go (in-append (binders signature1 (stepAt s i)) a) (λ b. bound-at (suc i) m (omega arith) b)
     where
       go : In x (binders signature1 (stepAt s i)) ⊎ In x (bound signature1 (listed (stepAt s) (suc i) m))
           → (In x (bound signature1 (listed (stepAt s) (suc i) m)) → (k : ℕ) × (suc i ≤ k) × (k < suc i + m) × Binds s k x)
           → (k : ℕ) × (i ≤ k) × (k < i + suc m) × Binds s k x
-      go (inl b) r = (i, omega arith, omega arith, all-in (step-binds s n i (omega arith)) b)
+      go (inl b) r = (i, omega arith, omega arith, all-in (step-binds s n i (omega arith)) x b)
       go (inr b) r = let (k, l, u, c) = r b in (k, omega arith, omega arith, c)
 
   at-bound : (x i m k : ℕ) → i + m ≤ steps s → i ≤ k → k < i + m → Binds s k x → In x (bound signature1 (listed (stepAt s) i m))
@@ -211,8 +172,8 @@ module _ (s : List ℕ) (n : Entered s) where
   at-bound x i (suc m) k h l u b = go (eq-or-lt-of-le l) (λ v. at-bound x (suc i) m k (omega arith) v (omega arith) b)
     where
       go : (i ≡ k) ⊎ (i < k) → (suc i ≤ k → In x (bound signature1 (listed (stepAt s) (suc i) m))) → In x (binders signature1 (stepAt s i) ++ bound signature1 (listed (stepAt s) (suc i) m))
-      go (inl e) r = let c : Binds s i x = rw e b in in-first _ _ (binders-mean i x (omega arith) .1 c)
-      go (inr v) r = in-second (binders signature1 (stepAt s i)) (r v)
+      go (inl e) r = let c : Binds s i x = rw e b in in-append-left _ (binders-mean i x (omega arith) .1 c)
+      go (inr v) r = in-append-right (binders signature1 (stepAt s i)) (r v)
 
   -- the steps of the table bind what some step binds
   pub bound-means : (x : ℕ) → In x (bound signature1 (tableOf s .steps)) ↔ ((k : ℕ) × (k < steps s) × Binds s k x)
@@ -237,4 +198,4 @@ module _ (s : List ℕ) (n : Entered s) where
         where
           not-is-in : (b : Bool) → isIn x (bound signature1 (tableOf s .steps)) ≡ b → isIn x (bound signature1 (tableOf s .steps)) ≡ false
           not-is-in false e = e
-          not-is-in true e = let (k, h, b) = bound-means x .0 (is-in-in x (bound signature1 (tableOf s .steps)) e) in absurd (f k h b)
+          not-is-in true e = let (k, h, b) = bound-means x .0 (in-true x (bound signature1 (tableOf s .steps)) e) in absurd (f k h b)

@@ -18,9 +18,9 @@ use Rattle.calculus.specs.Signature.{pairing, seal}
 use Rattle.calculus.specs.Terms.{build1, build2, send, receive, fresh, compare, split, decrypt, operands, binders, left, right, Statement, act, half, build}
 use Rattle.calculus.specs.Scope.{All, all-nil, all-cons}
 use Rattle.calculus.specs.Version1.{encryption, signature1}
+use Rattle.calculus.proofs.Lists.{all-append, all-at, all-map}
 use Rattle.rendering.specs.Lists.{StatementList}
 use Rattle.rendering.specs.Translation.{parts, registers}
-use Rattle.rendering.proofs.Base.{all-append, all-at, all-map}
 use Rattle.decoded_list.specs.Bytes.{twoOp, halfOp, statementBytes, statementsBytes, typeBytes, typesBytes, headerBytes, listBytes}
 use Rattle.decoded_list.specs.Form.{symbolsNamed, registersGiven, StatementsFit, fit-one, InForm}
 

@@ -14,7 +14,7 @@ use Rattle.base.specs.Search.{wrong, walk, first, allRight}
 use Rattle.calculus.specs.Terms.{Atom}
 use Rattle.calculus.specs.Tables.{Entry}
 use Rattle.calculus.specs.Version1.{signature1}
-use Rattle.rendering.proofs.Base.{map-append}
+use Rattle.calculus.proofs.Lists.{map-append}
 use Rattle.running.specs.Values.{isFresh, index}
 use Rattle.running.specs.Lists.{Register, termRegister, held, holds}
 use Rattle.execution.specs.Registers.{registerNumber, Given, valueIn, heldIn, freshIn, Gives}

@@ -15,7 +15,7 @@ use Rattle.table.specs.Faults.{tableRungs}
 use Rattle.calculus.specs.Terms.{bound}
 use Rattle.calculus.specs.Tables.{isIn}
 use Rattle.calculus.specs.Version1.{signature1}
-use Rattle.rendering.proofs.FreeLaws.{in-true, in-false, not-in-in}
+use Rattle.calculus.proofs.Lists.{in-true, in-false, not-in-in}
 use Rattle.decoded.specs.Table.{tableOf}
 use Rattle.decoded.proofs.Passed.{table-passed}
 use Rattle.decoded.proofs.Binding.{binds-means}

@@ -11,7 +11,7 @@ use borrow.Author.Tests.{eq-eqb, eqb-true, eqb-false}
 use Rattle.base.specs.Pick.{pick, both}
 use Rattle.marks.specs.Put.{Put}
 use Rattle.rendering.specs.Judge.{Meaning, symbol, term}
-use Rattle.rendering.proofs.Base.{get-more}
+use Rattle.calculus.proofs.Lists.{get-more}
 use Rattle.judging.specs.Meanings.{coded, Small, Meant, Held}
 
 -- ── Bytes ──

@@ -20,9 +20,9 @@ use Rattle.list.specs.Layout.{statements, statementsAt, gives}
 use Rattle.calculus.specs.Scope.{All}
 use Rattle.calculus.specs.Terms.{bound}
 use Rattle.calculus.specs.Version1.{signature1}
+use Rattle.calculus.proofs.Lists.{all-at}
 use Rattle.rendering.specs.Rendering.{halves}
 use Rattle.rendering.specs.Judge.{Meaning, symbol, Verdict as MeantVerdict, accepted, notDue, turn, onTurn, atEnd, judgeFrom, judge}
-use Rattle.rendering.proofs.Base.{all-at}
 use Rattle.rendering.proofs.FreeLaws.{missing-below}
 use Rattle.decoded.specs.Table.{tableOf, freeCount, freeOf}
 use Rattle.decoded.proofs.Steps.{sorts-length}

@@ -14,7 +14,7 @@ use Rattle.list.proofs.Framed.{list-passes}
 use Rattle.trace.specs.Layout.{values, supplies, startings, starting, supply}
 use Rattle.trace.proofs.Passed.{trace-passes}
 use Rattle.types.specs.Version1.{T}
-use Rattle.rendering.proofs.Base.{map-append}
+use Rattle.calculus.proofs.Lists.{map-append}
 use Rattle.running.specs.Lists.{Register, symbolRegister}
 use Rattle.decoded.specs.Values.{valuesOf}
 use Rattle.decoded.proofs.ValueLaws.{values-length}

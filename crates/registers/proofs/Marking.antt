@@ -4,8 +4,8 @@ use mathlib.Core.List.{List, [], _++_, map}
 use Prim.Native.Nat.{ℕ, _+_}
 use Rattle.marks.specs.Put.{blank}
 use Rattle.table_layout.specs.Layout.{symbols}
+use Rattle.calculus.proofs.Lists.{map-append}
 use Rattle.rendering.specs.Judge.{Meaning, symbol, term}
-use Rattle.rendering.proofs.Base.{map-append}
 use Rattle.decoded.specs.Table.{freeOf}
 use Rattle.free_symbols.specs.Free.{boundIn, freeTo as symbolsTo}
 use Rattle.free_symbols.proofs.FreeLaws.{free-none as none-free, free-more as more-free, free-all as all-free}

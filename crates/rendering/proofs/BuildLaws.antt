@@ -12,12 +12,12 @@ use Rattle.calculus.specs.Terms.{leaf, one, two, Term, Build, build1, build2, m
 use Rattle.calculus.specs.Tables.{Entry, leafEntry, kindEntry, entryAt, denoted, Closed, Lower}
 use Rattle.calculus.specs.Scope.{In, here, there, All, all-nil, all-cons, Distinct, di-nil, di-cons}
 use Rattle.calculus.proofs.TableLaws.{denoted-leaf, lower-all}
+use Rattle.calculus.proofs.Lists.{map-append, get-map, all-append, all-map, all-in, all-unmap, in-append-left, in-append-right, in-append}
 use Rattle.rendering.specs.Rendering.{Due, Follows, permitted}
 use Rattle.rendering.specs.Judge.{Meaning, symbol, term, sameMeant, meantBy, meant, termMeant}
 use Rattle.rendering.specs.Translation.{registerOf, isBuilt, parts, Made, buildEach, buildEntry, buildTerm, registers}
 use Rattle.rendering.proofs.MeaningLaws.{map-build, build-same, Proper, proper-term, meant-term, entry-built}
 use Rattle.rendering.proofs.ActLaws.{parts-map, part-lower}
-use Rattle.rendering.proofs.Base.{map-append, get-map, all-append, all-map, all-in, all-unmap, in-append-left, in-append-right, in-append}
 
 -- ── Registers ──
 

@@ -6,7 +6,7 @@ use native.Mathlib.Omega.{arith}
 use native.Mathlib.Decide.{ℕ-discrete}
 use lib.ListN.{length}
 use Rattle.calculus.specs.Scope.{In, here, there, All, all-cons, NotIn, Distinct, di-nil, di-cons}
-use Rattle.rendering.proofs.Base.{all-in}
+use Rattle.calculus.proofs.Lists.{all-in}
 
 -- a list without one of its elements
 record Without (x : ℕ) (ys : List ℕ) : Type 0 where

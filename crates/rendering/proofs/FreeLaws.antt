@@ -1,56 +1,20 @@
 -- Free and bound symbols: none comes twice, and every symbol of the table is one of them. Assumes nothing.
-use mathlib.Core.Path.{_≡_, refl, sym}
+use mathlib.Core.Path.{_≡_, refl}
 use mathlib.Core.Logic.{_⊎_, inl, inr, ⊎-elim}
-use mathlib.Core.Bool.{Bool, true, false, cond, false≢true}
-use mathlib.Core.List.{List, [], _∷_, _++_, map}
+use mathlib.Core.Bool.{Bool, true, false, cond}
+use mathlib.Core.List.{List, [], _∷_, _++_}
 use Prim.Native.Nat.{ℕ, suc, _+_, _<_, _≤_}
+use native.Mathlib.Decide.{ℕ-discrete}
 use native.Mathlib.Omega.{arith}
-use lib.Dec.{eqb}
 use lib.ListN.{length}
-use borrow.Author.Tests.{eqb-true, eqb-false}
 use Rattle.calculus.specs.Signature.{Signature}
-use Rattle.calculus.specs.Terms.{Act, mapAct, bound}
-use Rattle.calculus.specs.Tables.{isIn, Sort, missing, Table, process, free}
+use Rattle.calculus.specs.Terms.{bound}
+use Rattle.calculus.specs.Tables.{isIn, denoted, Sort, missing, Table, process, free}
 use Rattle.calculus.specs.Scope.{In, here, there, All, all-nil, all-cons, NotIn, Distinct, di-nil, di-cons, BindsOnce}
-use Rattle.rendering.proofs.MeaningLaws.{binders-map}
-use Rattle.rendering.proofs.Base.{all-append}
+use Rattle.calculus.proofs.Lists.{in-true, in-false, distinct-append}
+use Rattle.calculus.proofs.TableLaws.{bound-map}
 
--- ── Membership ──
-
-pub in-true : (x : ℕ) (l : List ℕ) → isIn x l ≡ true → In x l
-unfolding isIn
-in-true x [] h = absurd (false≢true h)
-in-true x (y ∷ l) h = go (eqb x y) refl h (in-true x l)
-  where
-    go : (t : Bool) → eqb x y ≡ t → cond t true (isIn x l) ≡ true → (isIn x l ≡ true → In x l) → In x (y ∷ l)
-    go true q h f = let e : x ≡ y = eqb-true x y q in rw e here
-    go false q h f = there (f h)
-
-pub in-false : (x : ℕ) (l : List ℕ) → isIn x l ≡ false → NotIn x l
-unfolding isIn
-in-false x [] h = all-nil
-in-false x (y ∷ l) h = go (eqb x y) refl h (in-false x l)
-  where
-    go : (t : Bool) → eqb x y ≡ t → cond t true (isIn x l) ≡ false → (isIn x l ≡ false → NotIn x l) → NotIn x (y ∷ l)
-    go true q h f = absurd (false≢true (sym h))
-    go false q h f = all-cons (eqb-false x y q) (f h)
-
-pub not-in-in : {x : ℕ} {l : List ℕ} → NotIn x l → In x l → ⊥
-not-in-in (all-cons n ns) here = n refl
-not-in-in (all-cons n ns) (there i) = not-in-in ns i
-
-pub in-or-not : (x : ℕ) (l : List ℕ) → In x l ⊎ NotIn x l
-in-or-not x l = go (isIn x l) refl
-  where
-    go : (t : Bool) → isIn x l ≡ t → In x l ⊎ NotIn x l
-    go true h = inl (in-true x l h)
-    go false h = inr (in-false x l h)
-
--- ── Distinct lists ──
-
-pub distinct-append : {k l : List ℕ} → Distinct k → Distinct l → All (λ x. NotIn x l) k → Distinct (k ++ l)
-distinct-append di-nil d a = d
-distinct-append (di-cons n k) d (all-cons p a) = di-cons (all-append n p) (distinct-append k d a)
+-- ── Missing symbols ──
 
 missing-from : (i : ℕ) (so : List Sort) (l : List ℕ) → All (λ x. i ≤ x) (missing i so l)
 unfolding missing
@@ -91,7 +55,7 @@ missing-distinct i (s ∷ so) l = go (isIn i l) (missing-distinct (suc i) so l)
 missing-or : (i : ℕ) (so : List Sort) (l : List ℕ) (x : ℕ) → i ≤ x → x < i + length so → In x (missing i so l) ⊎ In x l
 unfolding missing
 missing-or i [] l x p q = absurd (omega arith)
-missing-or i (s ∷ so) l x p q = go (isIn i l) refl (native.Mathlib.Decide.ℕ-discrete x i) (missing-or (suc i) so l x)
+missing-or i (s ∷ so) l x p q = go (isIn i l) refl (ℕ-discrete x i) (missing-or (suc i) so l x)
   where
     go : (t : Bool) → isIn i l ≡ t → Dec (x ≡ i) → (suc i ≤ x → x < suc i + length so → In x (missing (suc i) so l) ⊎ In x l)
         → In x (cond t (missing (suc i) so l) (i ∷ missing (suc i) so l)) ⊎ In x l
@@ -115,14 +79,9 @@ missing-below i (s ∷ so) l = go (isIn i l) (up (missing-below (suc i) so l))
     go false h = let q : i < i + length (s ∷ so) = omega arith in all-cons q h
 
 module _ (𝓢 : Signature) where
-  pub bound-map : {A B : Type 0} (f : A → B) (P : List (Act 𝓢 A)) → bound 𝓢 (map (mapAct 𝓢 f) P) ≡ bound 𝓢 P
-  unfolding bound
-  bound-map f [] = refl
-  bound-map f (s ∷ P) = rw (bound-map f P, binders-map 𝓢 f s)
-
   pub free-and-bound : (t : Table 𝓢) → BindsOnce 𝓢 (process 𝓢 t) → Distinct (free 𝓢 t ++ bound 𝓢 (process 𝓢 t))
   free-and-bound t o =
-      let e = bound-map (Rattle.calculus.specs.Tables.denoted 𝓢 0 (t .entries)) (t .steps) in
+      let e = bound-map 𝓢 (denoted 𝓢 0 (t .entries)) (t .steps) in
       rw e (distinct-append (missing-distinct 0 (t .sorts) (bound 𝓢 (t .steps))) (rw e at o) (missing-out 0 (t .sorts) (bound 𝓢 (t .steps))))
 
   pub free-or-bound : (t : Table 𝓢) (x : ℕ) → x < length (t .sorts) → In x (free 𝓢 t) ⊎ In x (bound 𝓢 (t .steps))

@@ -11,11 +11,11 @@ use Rattle.calculus.specs.Signature.{Signature}
 use Rattle.calculus.specs.Terms.{Term, Act, send, receive, fresh, compare, split, decrypt, mapAct, operands}
 use Rattle.calculus.specs.Tables.{Entry, denoted, Closed, Unrepeated, Table, meaning, free}
 use Rattle.calculus.specs.Scope.{In, here, there, All, all-nil, all-cons}
+use Rattle.calculus.proofs.Lists.{all-append, all-of}
 use Rattle.rendering.specs.Rendering.{Splitting, halves, merged, Due, duesOf, dues, no-more, Beginning}
 use Rattle.rendering.specs.Judge.{Meaning, symbol, Verdict, accepted, notDue, unfinished, meant, termMeant, atEnd, onTurn, judgeFrom, judge, VerdictIs, is-faithful, is-not-due, is-unfinished, JudgeIsExact, VerdictOnce}
 use Rattle.rendering.proofs.RuleLaws.{follows-take, follows-once}
 use Rattle.rendering.proofs.MeaningLaws.{map-act, act-same, onDue, dues-map, Proper, proper-meant, meant-term}
-use Rattle.rendering.proofs.Base.{all-append, all-of}
 use Rattle.rendering.proofs.TurnLaws.{S, D, OK, F, DueOK, meanings, symbols-ok, symbols-terms, Leads, leads-to, leads-nowhere, leads}
 
 module _ (𝓢 : Signature) where

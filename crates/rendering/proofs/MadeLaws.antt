@@ -7,15 +7,15 @@ use Prim.Native.Nat.{ℕ, zero, suc, _+_, _<_, _≤_}
 use native.Mathlib.Omega.{arith}
 use lib.ListN.{length, getElem?}
 use Rattle.calculus.specs.Signature.{Signature}
-use Rattle.calculus.specs.Terms.{leaf, Term, Build, mapBuild, built, Act, send, receive, fresh, compare, split, decrypt, mapAct, operands, Statement}
+use Rattle.calculus.specs.Terms.{left, leaf, Term, Build, mapBuild, built, Act, send, receive, fresh, compare, split, decrypt, mapAct, operands, Statement}
 use Rattle.calculus.specs.Tables.{Entry, kindEntry, entryAt, denoted, Closed, Table, free}
 use Rattle.calculus.specs.Scope.{In, here, there, All, all-nil, all-cons}
 use Rattle.calculus.specs.Typing.{Checked}
+use Rattle.calculus.proofs.Lists.{all-in, in-append-left, in-append-right, in-append, in-map, named-in}
 use Rattle.rendering.specs.Rendering.{Splitting, halves, merged, Due, whole, part, binds, duesOf, dues, Says, says-act, says-half, Follows, no-more, permitted, next-due, Beginning}
 use Rattle.rendering.specs.Translation.{parts, Used, by-step, by-term, NoneIdle, EveryTermIsMade}
 use Rattle.rendering.proofs.ActLaws.{ActZip, zip-send, zip-receive, zip-fresh, zip-compare, zip-split, zip-decrypt, BuildZip, zip-one, zip-two, zip-acts, zip-builds, parts-map, operands-map, part-lower}
 use Rattle.rendering.proofs.MeaningLaws.{entry-built, no-leaf-built, built-once}
-use Rattle.rendering.proofs.Base.{all-in, in-append-left, in-append-right, in-append, in-map, named-in}
 
 module _ (𝓢 : Signature) (es : List (Entry 𝓢 ℕ)) (low : Closed 𝓢 0 es) where
   abbrev Terms : Type 0
@@ -108,7 +108,7 @@ module _ (𝓢 : Signature) (es : List (Entry 𝓢 ℕ)) (low : Closed 𝓢 0 es
   step-due v n (receive a x) ws = record { due = (n, whole (receive a x)); isDue = here; names = λ c i. i }
   step-due v n (fresh x) ws = record { due = (n, whole (fresh x)); isDue = here; names = λ c i. i }
   step-due v n (compare a b) ws = record { due = (n, whole (compare a b)); isDue = here; names = λ c i. i }
-  step-due halves n (split a x y) ws = record { due = (n, part Rattle.calculus.specs.Terms.left a x); isDue = here; names = λ c i. i }
+  step-due halves n (split a x y) ws = record { due = (n, part left a x); isDue = here; names = λ c i. i }
   step-due merged n (split a x y) ws = record { due = (n, whole (split a x y)); isDue = here; names = λ c i. i }
   step-due v n (decrypt s a b x) ws = record { due = (n, whole (decrypt s a b x)); isDue = here; names = λ c i. i }
 

@@ -6,13 +6,14 @@ use Prim.Native.Nat.{ℕ, zero, suc, _<_}
 use native.Mathlib.Omega.{arith}
 use lib.ListN.{length, getElem?}
 use Rattle.calculus.specs.Signature.{Signature}
-use Rattle.calculus.specs.Terms.{leaf, Term, Build, build1, build2, mapBuild, built, Act, send, receive, fresh, compare, split, decrypt, mapAct, binders, Statement}
+use Rattle.calculus.specs.Terms.{leaf, Term, Build, build1, build2, mapBuild, built, Act, send, receive, fresh, compare, split, decrypt, mapAct, Statement}
 use Rattle.calculus.specs.Tables.{Entry, leafEntry, kindEntry, entryTree, entryAt, denoted, Closed, Unrepeated}
 use Rattle.calculus.specs.Scope.{All, all-nil, all-cons}
 use Rattle.calculus.proofs.TableLaws.{denoted-by-entries, denoted-leaf, equal-trees-equal-indexes}
+use Rattle.calculus.proofs.Lists.{map-append, get-map}
+use Rattle.calculus.proofs.TableLaws.{binders-map}
 use Rattle.rendering.specs.Rendering.{Splitting, halves, merged, Due, whole, part, binds, duesOf, dues, Says, says-act, says-half}
 use Rattle.rendering.specs.Judge.{Meaning, symbol, term, meantBy, meant, termMeant}
-use Rattle.rendering.proofs.Base.{map-append, get-map}
 
 module _ (𝓢 : Signature) where
   pub map-build : {X Y Z : Type 0} (f : X → Y) (g : Y → Z) (b : Build 𝓢 X) → mapBuild 𝓢 g (mapBuild 𝓢 f b) ≡ mapBuild 𝓢 (λ x. g (f x)) b
@@ -43,15 +44,6 @@ module _ (𝓢 : Signature) where
   act-same f g h (split a x y) = rw (h a)
   act-same f g h (decrypt s a b x) = rw (h a, h b)
 
-  pub binders-map : {X Y : Type 0} (f : X → Y) (a : Act 𝓢 X) → binders 𝓢 (mapAct 𝓢 f a) ≡ binders 𝓢 a
-  unfolding binders mapAct
-  binders-map f (send a b) = refl
-  binders-map f (receive a x) = refl
-  binders-map f (fresh x) = refl
-  binders-map f (compare a b) = refl
-  binders-map f (split a x y) = refl
-  binders-map f (decrypt s a b x) = refl
-
   -- what is due, under a map
   unfoldable pub mapDue : {X Y : Type 0} → (X → Y) → Due 𝓢 X → Due 𝓢 Y
   mapDue f (whole a) = whole (mapAct 𝓢 f a)
@@ -59,7 +51,7 @@ module _ (𝓢 : Signature) where
 
   pub binds-map : {X Y : Type 0} (f : X → Y) (w : Due 𝓢 X) → binds 𝓢 (mapDue f w) ≡ binds 𝓢 w
   unfolding binds mapDue
-  binds-map f (whole a) = binders-map f a
+  binds-map f (whole a) = binders-map 𝓢 f a
   binds-map f (part d a x) = refl
 
   -- a numbered due under a map

@@ -6,17 +6,18 @@ use mathlib.Core.List.{List, [], _∷_, _++_, map, append-assoc, append-nil}
 use Prim.Native.Nat.{ℕ, zero, suc, _+_, _<_, _≤_}
 use native.Mathlib.Omega.{arith}
 use lib.ListN.{length, getElem?, length-append, length-map}
-use Rattle.calculus.specs.Signature.{Signature, Two}
-use Rattle.calculus.specs.Terms.{leaf, one, two, Term, build1, build2, Act, send, receive, fresh, compare, split, decrypt, mapAct, operands, binders, bound, left, right, Statement, act, half}
+use Rattle.calculus.specs.Signature.{Signature}
+use Rattle.calculus.specs.Terms.{leaf, Term, build1, build2, Act, send, receive, fresh, compare, split, decrypt, mapAct, operands, binders, bound, left, right, Statement, act, half}
 use Rattle.calculus.specs.Tables.{Entry, leafEntry, kindEntry, entryAt, denoted, Closed, Lower, low-one, low-two, meaning}
-use Rattle.calculus.specs.Scope.{In, here, there, All, all-nil, all-cons, Distinct, Lacks, la-symbol, la-one, la-two, Scoped, sc-step}
+use Rattle.calculus.specs.Scope.{In, here, there, All, all-nil, all-cons, Distinct, Lacks, Scoped, sc-step}
+use Rattle.calculus.proofs.Inversion.{lacks-itself, lacks-part, lacks-left, lacks-right}
 use Rattle.calculus.proofs.TableLaws.{denoted-leaf, denoted-one, denoted-two}
+use Rattle.calculus.proofs.Lists.{get-map, get-more, all-append, all-of, all-in, all-unmap, in-append-left, in-append-right, in-append, in-map}
+use Rattle.calculus.proofs.TableLaws.{binders-map, bound-map}
 use Rattle.rendering.specs.Rendering.{Splitting, halves, merged, Due, whole, part, binds, duesOf, dues, Says, says-act, says-half, Follows, no-more, next-due}
 use Rattle.rendering.specs.Judge.{Meaning, symbol, meant, termMeant}
 use Rattle.rendering.specs.Translation.{Made, buildEach, buildTerm, stated, translateFrom, registers}
-use Rattle.rendering.proofs.MeaningLaws.{map-act, act-same, binders-map, Proper, proper-symbol, meant-term}
-use Rattle.rendering.proofs.FreeLaws.{bound-map}
-use Rattle.rendering.proofs.Base.{get-map, get-more, all-append, all-of, all-in, all-unmap, in-append-left, in-append-right, in-append, in-map}
+use Rattle.rendering.proofs.MeaningLaws.{map-act, act-same, Proper, proper-symbol, meant-term}
 use Rattle.rendering.proofs.ActLaws.{operands-map}
 use Rattle.rendering.proofs.BuildLaws.{register-in, register-below, termsOf, terms-append, symbols-none, Only, Named, named-more, Good, good-keep, regs, good-operands, only-symbol, only-one, only-two}
 
@@ -116,23 +117,11 @@ module _ (𝓢 : Signature) (es : List (Entry 𝓢 ℕ)) (low : Closed 𝓢 0 es
 
   -- ── the whole ──
 
-  lacks-itself : {x : ℕ} → Lacks 𝓢 x (leaf x) → ⊥
-  lacks-itself (la-symbol n) = n refl
-
-  lacks-part : {x : ℕ} {k : 𝓢 .One} {M : Term 𝓢} → Lacks 𝓢 x (one k M) → Lacks 𝓢 x M
-  lacks-part (la-one l) = l
-
-  lacks-left : {x : ℕ} {k : Two (𝓢 .Seal)} {M N : Term 𝓢} → Lacks 𝓢 x (two k M N) → Lacks 𝓢 x M
-  lacks-left (la-two l r) = l
-
-  lacks-right : {x : ℕ} {k : Two (𝓢 .Seal)} {M N : Term 𝓢} → Lacks 𝓢 x (two k M N) → Lacks 𝓢 x N
-  lacks-right (la-two l r) = r
-
   -- a term that lacks all symbols of l has only the others
   only-others : {R K : ℕ → Type 0} {M : Term 𝓢} (l : List ℕ) → On R M → ((x : ℕ) → In x l → Lacks 𝓢 x M) → ((x : ℕ) → R x → K x ⊎ In x l) → On K M
-  only-others {R} {K} l (only-symbol {x = x} r) h c = ⊎-elim (λ (k : K x). only-symbol k) (λ (b : In x l). absurd (lacks-itself (h x b))) (c x r)
-  only-others l (only-one o) h c = only-one (only-others l o (λ x b. lacks-part (h x b)) c)
-  only-others l (only-two o p) h c = only-two (only-others l o (λ x b. lacks-left (h x b)) c) (only-others l p (λ x b. lacks-right (h x b)) c)
+  only-others {R} {K} l (only-symbol {x = x} r) h c = ⊎-elim (λ (k : K x). only-symbol k) (λ (b : In x l). absurd (lacks-itself 𝓢 (h x b))) (c x r)
+  only-others l (only-one o) h c = only-one (only-others l o (λ x b. lacks-part 𝓢 (h x b)) c)
+  only-others l (only-two o p) h c = only-two (only-others l o (λ x b. lacks-left 𝓢 (h x b)) c) (only-others l p (λ x b. lacks-right 𝓢 (h x b)) c)
 
   pub record Whole (v : Splitting) (n : ℕ) (P : List (Act 𝓢 ℕ)) (ms : List Meaning) (r : Made 𝓢) : Type 0 where
     pub renders-all : Follows 𝓢 es (map T ms) (dues 𝓢 v n (meaning 𝓢 es P)) (r .0) (map T (r .1)) []

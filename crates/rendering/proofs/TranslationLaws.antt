@@ -10,14 +10,15 @@ use Rattle.calculus.specs.Terms.{Term, Build, Act, send, receive, fresh, compar
 use Rattle.calculus.specs.Tables.{Entry, leafEntry, kindEntry, entryAt, denoted, Unrepeated, Table, process, free}
 use Rattle.calculus.specs.Scope.{In, here, there, All, all-nil, all-cons, Distinct, di-nil, di-cons}
 use Rattle.calculus.specs.Typing.{Checked}
+use Rattle.calculus.proofs.Lists.{all-append, all-map, all-of, all-in, in-map, in-unmap}
+use Rattle.calculus.proofs.TableLaws.{bound-map}
 use Rattle.rendering.specs.Rendering.{Splitting, halves, merged, Due, duesOf, dues, Beginning}
 use Rattle.rendering.specs.Judge.{Meaning, symbol, term, termMeant}
 use Rattle.rendering.specs.Translation.{translated, translation, InRange, NoneIdle, TranslationIsFaithful, compounds, LengthIsKnown, TranslationFits}
 use Rattle.rendering.proofs.MeaningLaws.{Proper, proper-term, meant-once}
-use Rattle.rendering.proofs.FreeLaws.{bound-map, free-and-bound, free-or-bound, missing-below}
+use Rattle.rendering.proofs.FreeLaws.{free-and-bound, free-or-bound, missing-below}
 use Rattle.rendering.proofs.Counting.{no-longer, at-most}
 use Rattle.rendering.proofs.MadeLaws.{every-term-is-made}
-use Rattle.rendering.proofs.Base.{all-append, all-map, all-of, all-in, in-map, in-unmap}
 use Rattle.rendering.proofs.BuildLaws.{termsOf, symbols-none, term-in, in-term, named-more}
 use Rattle.rendering.proofs.StepLaws.{symbols-terms, Whole, symbols-proper, translates, ranged}
 

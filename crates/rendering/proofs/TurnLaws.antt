@@ -13,12 +13,13 @@ use Rattle.calculus.specs.Terms.{leaf, Term, Build, sameBuild, mapBuild, built,
 use Rattle.calculus.specs.Tables.{Entry, leafEntry, kindEntry, entryAt, entryTree, denoted, Closed, Unrepeated, Lower, low-one, low-two}
 use Rattle.calculus.specs.Scope.{All, all-nil, all-cons}
 use Rattle.calculus.proofs.TableLaws.{denoted-by-entries, lower-all}
+use Rattle.calculus.proofs.Lists.{map-append}
 use Rattle.rendering.specs.Rendering.{InTable, Due, whole, part, binds, Says, says-act, says-half, Follows, permitted, next-due}
 use Rattle.rendering.specs.Judge.{Meaning, symbol, term, sameMeant, sameOption, meant, termMeant, says, fits, findFrom, taken, turn}
 use Rattle.rendering.proofs.ActLaws.{ActZip, zip-send, zip-receive, zip-fresh, zip-compare, zip-split, zip-decrypt, BuildZip, zip-one, zip-two, zip-acts, zip-builds}
 use Rattle.rendering.proofs.RuleLaws.{no-build-due, some-builds}
 use Rattle.rendering.proofs.MeaningLaws.{mapDue, map-build, build-same, map-act, binds-map, onDue, Proper, proper-symbol, proper-term, proper-meant, meant-term, entry-built, built-once, no-leaf-built, build-terms, says-terms, named-index}
-use Rattle.rendering.proofs.Base.{map-append, decided, decides, and-left, and-right, not-both}
+use Rattle.rendering.proofs.Base.{decided, decides, and-left, and-right, not-both}
 
 module _ (𝓢 : Signature) where
   abbrev pub S : Type 0

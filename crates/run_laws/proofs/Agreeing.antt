@@ -11,7 +11,7 @@ use Rattle.calculus.specs.Scope.{All, all-cons, Lacks}
 use Rattle.calculus.specs.Figure2.{T, Env, _<:_ as Sub, _⊢_∶_ as Has}
 use Rattle.calculus.specs.Typing.{Typed, P-Nil, P-Out, P-In, P-Restr, P-Match, P-PSplit, P-ShKD}
 use Rattle.calculus.proofs.Inversion.{has-agree}
-use Rattle.calculus.proofs.StepTyping.{all-split}
+use Rattle.calculus.proofs.Lists.{all-split}
 
 module _ (𝓢 : Signature) where
   -- a term holds only symbols below n

@@ -10,9 +10,9 @@ use Rattle.calculus.specs.Scope.{In, here, there, All, all-nil, all-cons, Lacks
 use Rattle.calculus.specs.Typing.{Checked}
 use Rattle.calculus.specs.Version1.{signature1}
 use Rattle.calculus.proofs.TableLaws.{denoted-leaf, denoted-one, denoted-two}
+use Rattle.calculus.proofs.Lists.{all-of}
+use Rattle.calculus.proofs.TableLaws.{binders-map}
 use Rattle.rendering.specs.Translation.{InRange}
-use Rattle.rendering.proofs.Base.{all-of}
-use Rattle.rendering.proofs.MeaningLaws.{binders-map}
 use Rattle.decoded.proofs.Steps.{operands-mapped}
 use Rattle.run_laws.proofs.Agreeing.{TermBelow, StepBelow}
 

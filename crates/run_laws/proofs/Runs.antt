@@ -20,8 +20,8 @@ use Rattle.calculus.specs.Tables.{process}
 use Rattle.calculus.specs.Scope.{All}
 use Rattle.calculus.specs.Typing.{Typed, widest, AnswerIs, is-widest}
 use Rattle.calculus.specs.Version1.{signature1}
+use Rattle.calculus.proofs.Lists.{all-of}
 use Rattle.rendering.specs.Rendering.{halves}
-use Rattle.rendering.proofs.Base.{all-of}
 use Rattle.running.specs.Demand3.{CheckedTrace, typesOf}
 use Rattle.running.proofs.Version1Laws.{demand-3-holds1}
 use Rattle.decoded.specs.Table.{sortAt, tableOf}

@@ -18,7 +18,7 @@ use Rattle.calculus.specs.Version1.{encryption, signature1, atomType1}
 use Rattle.rendering.specs.Rendering.{halves}
 use Rattle.rendering.specs.Translation.{InRange, translation}
 use Rattle.calculus.specs.ExampleTables.{E1}
-use Rattle.rendering.proofs.Base.{all-in}
+use Rattle.calculus.proofs.Lists.{all-in}
 use Rattle.rendering.proofs.TranslationLaws.{translation-is-faithful}
 use Rattle.running.specs.Values.{basicShape, visible, entryShape}
 use Rattle.running.specs.Demand3.{CheckedTrace, Starts, starts-nil, starts-cons, Demand3}

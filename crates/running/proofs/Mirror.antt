@@ -10,9 +10,9 @@ use Rattle.calculus.specs.Signature.{Signature}
 use Rattle.calculus.specs.Terms.{Atom, Term, Value, leaf, Build, mapBuild, built, Act, mapAct, operands, binders, Step, Process, Side, left, right, Statement, act, half, build}
 use Rattle.calculus.specs.Tables.{Entry, kindEntry, Lower, low-one, low-two}
 use Rattle.calculus.specs.Scope.{All, all-nil, all-cons}
+use Rattle.calculus.proofs.Lists.{map-append, all-append}
+use Rattle.calculus.proofs.TableLaws.{binders-map}
 use Rattle.rendering.proofs.ActLaws.{ActZip, BuildZip, zip-one, zip-two}
-use Rattle.rendering.proofs.MeaningLaws.{binders-map}
-use Rattle.rendering.proofs.Base.{map-append, all-append}
 use Rattle.running.specs.Values.{pairParts, inside, tree, index}
 use Rattle.running.specs.Acts.{Both, Ending, finished, Logged, onLogged, Out, goes, stops, Tests, perform, Result, ended, andThen}
 use Rattle.running.specs.Lists.{Register, symbolRegister, termRegister, held, holds, sideOf, halfOf, inRegisters, execute, run, made, table, trees}

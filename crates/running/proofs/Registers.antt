@@ -10,8 +10,8 @@ use borrow.Author.Tests.{eq-eqb, ne-eqb}
 use Rattle.calculus.specs.Signature.{Signature, Two}
 use Rattle.calculus.specs.Terms.{leaf, one, two, Term, Value, Build, mapBuild, built, Act, mapAct}
 use Rattle.calculus.specs.Scope.{all-nil, all-cons, NotIn, Distinct, di-cons}
+use Rattle.calculus.proofs.Lists.{map-append}
 use Rattle.rendering.proofs.ActLaws.{ActZip, zip-send, zip-receive, zip-fresh, zip-compare, zip-split, zip-decrypt, BuildZip, zip-one, zip-two, zip-acts, zip-builds}
-use Rattle.rendering.proofs.Base.{map-append}
 use Rattle.running.specs.Lists.{Register, symbolRegister, held, holds}
 use Rattle.running.specs.Processes.{Bindings, valuesOf, look, eval}
 

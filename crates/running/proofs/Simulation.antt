@@ -9,10 +9,10 @@ use Rattle.calculus.specs.Signature.{Signature}
 use Rattle.calculus.specs.Terms.{leaf, Term, Value, Build, mapBuild, built, Act, send, receive, fresh, compare, split, decrypt, mapAct, binders, bound, Step, Process, left, right, Statement, act, half, build}
 use Rattle.calculus.specs.Tables.{Entry}
 use Rattle.calculus.specs.Scope.{Distinct}
+use Rattle.calculus.proofs.Lists.{map-append}
+use Rattle.calculus.proofs.TableLaws.{binders-map}
 use Rattle.rendering.specs.Rendering.{Splitting, halves, merged, Due, whole, part, binds, duesOf, dues, Says, says-act, says-half, Follows, no-more, permitted, next-due}
 use Rattle.rendering.proofs.ActLaws.{ActZip, BuildZip}
-use Rattle.rendering.proofs.MeaningLaws.{binders-map}
-use Rattle.rendering.proofs.Base.{map-append}
 use Rattle.running.specs.Values.{tree, treeShape, pairParts}
 use Rattle.running.specs.Acts.{Ending, Logged, Out, finished, no-pair, Tests, perform, splitting, Result, ended, after, andThen}
 use Rattle.running.specs.Lists.{Register, symbolRegister, termRegister, held, holds, sideOf, halfOf, inRegisters, execute, run, trees}

@@ -11,8 +11,8 @@ use Rattle.calculus.specs.Signature.{Signature}
 use Rattle.calculus.specs.Terms.{Atom, Term, Value, Act, send, receive, fresh, compare, split, decrypt, mapAct, operands, binders, Step}
 use Rattle.calculus.specs.Tables.{Entry}
 use Rattle.calculus.specs.Scope.{All, all-nil, all-cons}
+use Rattle.calculus.proofs.Lists.{all-map, all-at}
 use Rattle.rendering.proofs.ActLaws.{ActZip, zip-send, zip-receive, zip-fresh, zip-compare, zip-split, zip-decrypt}
-use Rattle.rendering.proofs.Base.{all-map, all-at}
 use Rattle.running.specs.Values.{View, isFresh, isAtom, pairParts, Opening, inside, locked, unsealed, openShape}
 use Rattle.running.specs.Acts.{Both, both, Logged, onLogged, Out, goes, stops, Tests, passes, splitting, opening, perform}
 use Rattle.running.specs.Lists.{Register, symbolRegister, termRegister, held, holds}

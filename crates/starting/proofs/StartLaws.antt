@@ -25,7 +25,7 @@ use Rattle.types.specs.Version1.{bytes}
 use Rattle.calculus.specs.Terms.{Atom, bound}
 use Rattle.calculus.specs.Tables.{Entry}
 use Rattle.calculus.specs.Version1.{signature1}
-use Rattle.rendering.proofs.Base.{all-at}
+use Rattle.calculus.proofs.Lists.{all-at}
 use Rattle.rendering.proofs.FreeLaws.{missing-below}
 use Rattle.running.specs.Values.{visible, index}
 use Rattle.running.specs.Demand3.{Starts, starts-nil, starts-cons, typesOf}

@@ -18,9 +18,9 @@ use Rattle.calculus.specs.Terms.{operands, binders, bound}
 use Rattle.calculus.specs.Tables.{Entry, leafEntry, entryAt}
 use Rattle.calculus.specs.Scope.{In, here, there, All, all-nil}
 use Rattle.calculus.specs.Version1.{signature1}
+use Rattle.calculus.proofs.Lists.{all-append, all-map}
 use Rattle.rendering.specs.Rendering.{halves}
 use Rattle.rendering.specs.Translation.{parts, translation, translated, InRange, Used, by-step, by-term, NoneIdle}
-use Rattle.rendering.proofs.Base.{all-append, all-map}
 use Rattle.rendering.proofs.Version1Laws.{length-is-known1, translation-fits1}
 use Rattle.entries.specs.Tiling.{listed}
 use Rattle.decoded.specs.Meaning.{HasPart, Uses, Named}

@@ -15,10 +15,10 @@ use Rattle.table.specs.Faults.{tableRungs}
 use Rattle.calculus.specs.Terms.{Act, operands, binders, Statement}
 use Rattle.calculus.specs.Scope.{All, all-cons}
 use Rattle.calculus.specs.Version1.{signature1}
+use Rattle.calculus.proofs.Lists.{all-map}
 use Rattle.rendering.specs.Rendering.{halves}
 use Rattle.rendering.specs.Judge.{Meaning, symbol}
 use Rattle.rendering.specs.Translation.{buildEach, buildTerm, translateFrom}
-use Rattle.rendering.proofs.Base.{all-map}
 use Rattle.entries.specs.Tiling.{listed}
 use Rattle.decoded.specs.Table.{stepAt}
 use Rattle.decoded.proofs.Passed.{table-passed}

@@ -1,2 +1,3 @@
--- Laws of the services that write a file.
+-- Laws of the services that write a file, and of the type service.
 pub mod ServiceLaws
+pub mod Typable

@@ -12,13 +12,17 @@ use Rattle.table_layout.specs.Layout.{symbols}
 use Rattle.table.specs.Faults.{tableRungs}
 use Rattle.buffers.specs.Over.{over}
 use Rattle.calculus.specs.Figure2.{Env}
-use Rattle.calculus.specs.Typing.{widest, untyped, AnswerIs}
+use Rattle.calculus.specs.Typing.{PrintedFrom, widest, untyped, AnswerIs}
 use Rattle.calculus.specs.Version1.{signature1}
 use Rattle.decoded.specs.Table.{tableOf}
 use Rattle.decoded_list.specs.Bytes.{typesBytes, typesTo}
 use Rattle.slots.specs.Slots.{Holds}
 use Rattle.typing.specs.Answers.{typingCheck}
 use Rattle.typing.specs.declared.Typing.the-variants.{NoTyping}
+
+-- a typing of the steps from i on exists, by Figure 2 as it is printed, with every name's type at or below Name
+abbrev pub Typable : List ℕ → ℕ → Type 0
+Typable s i = (Γ : Env signature1) × PrintedFrom signature1 (tableOf s) i Γ
 
 -- Γ is the widest typing of a table without faults 1 to 9
 pub record IsWidest (s : List ℕ) (Γ : Env signature1) : Type 0 where

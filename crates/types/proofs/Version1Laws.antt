@@ -1,12 +1,14 @@
 -- The laws of document 01's tables, and what its reader of bytes cites. Assumes nothing.
 use mathlib.Core.Path.{_≡_, refl}
-use mathlib.Core.Option.{none, some, Option·some-inj, Option·none-ne-some}
+use mathlib.Core.Bool.{decide}
+use mathlib.Core.Option.{none, some, Option·elim, Option·some-inj, Option·none-ne-some}
 use Prim.Native.Nat.{ℕ, zero, suc, _≤_, _<_}
 use native.Mathlib.Omega.{arith}
-use Rattle.types.specs.Forest.{Falls}
-use Rattle.types.specs.Types.{TypesAreOrdered, MeetIsGreatest}
+use Rattle.types.specs.Order.{Greatest, nothing}
+use Rattle.types.specs.Forest.{Falls, within, under, lowerOf}
+use Rattle.types.specs.Types.{Basic, _<:_ as Sub, meet, TypesAreOrdered, MeetIsGreatest}
 use Rattle.types.specs.Prefix.{Node, n-message, n-basic, n-cipher, n-pair, CodeLaws, parts, follows, LengthIsNodes, StartsOnce, ReadingIsExact}
-use Rattle.types.specs.Version1.{name, channel, shkey, shared, parent1, depth1, forest1, types1, code1, nodeOf1, codes1}
+use Rattle.types.specs.Version1.{name, channel, shkey, shared, parent1, depth1, forest1, types1, T, code1, nodeOf1, codes1}
 use Rattle.types.proofs.TypeLaws.{types-are-ordered, meet-is-greatest}
 use Rattle.types.proofs.PrefixLaws.{length-is-nodes, starts-once, reading-is-exact}
 
@@ -53,6 +55,18 @@ once1 = starts-once codes1 code-laws1
 
 pub exact1 : ReadingIsExact codes1
 exact1 = reading-is-exact codes1 code-laws1
+
+infix 4 _<:_
+abbrev _<:_ : T → T → Type 0
+A <: B = Sub types1 A B
+
+-- no type lies below both Channel and ShKey
+pub no-channel-key : (A : T) → A <: Basic channel → A <: Basic shkey → ⊥
+unfolding meet lowerOf under within parent1 depth1 decide Option·elim
+no-channel-key A p q = none-below (meet1 (Basic channel) (Basic shkey))
+  where
+    none-below : Greatest (Sub types1) (λ B. (B <: Basic channel) × (B <: Basic shkey)) none → ⊥
+    none-below (nothing n) = n A (p, q)
 
 -- ── The class of each byte ──
 pub byte-whole : (n : ℕ) → n < 4 → follows codes1 n ≡ some 0

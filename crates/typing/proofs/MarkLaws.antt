@@ -1,6 +1,6 @@
 -- Steps of the marking. Assumes nothing.
 use mathlib.Core.Path.{_≡_, refl, sym, ap, _∙_}
-use mathlib.Core.Bool.{Bool, true, false, _||_}
+use mathlib.Core.Bool.{Bool, true, false, cond, _||_}
 use mathlib.Core.List.{List, []}
 use Prim.Native.Nat.{ℕ, zero, suc, _+_, _≤_, _<_}
 use native.Mathlib.Omega.{arith}
@@ -15,8 +15,8 @@ use Rattle.entries.specs.Fields.{code, role}
 use Rattle.table_layout.specs.Layout.{terms, stepsAt, stepField}
 use Rattle.table_naming.specs.Naming.{useAt}
 use Rattle.calculus.specs.Terms.{operands}
-use Rattle.calculus.specs.Tables.{leafEntry}
-use Rattle.calculus.specs.Inference.{mark, marks, spread, down}
+use Rattle.calculus.specs.Tables.{isIn, leafEntry}
+use Rattle.calculus.specs.Inference.{mark, spread, down}
 use Rattle.calculus.specs.Version1.{signature1}
 use Rattle.decoded.specs.Table.{actOf, stepAt}
 use Rattle.slots.specs.Terms.{codeAt, partAt, entry, InRange}
@@ -51,8 +51,8 @@ bits-mark {z} {o} {m} i p b = bits-as (λ u. go u (eqb i u) (eqb-swap i u)) (bit
     go u true e = rw (← e)
     go u false e = rw (← e)
 
-pub bits-blank : Bits blank (marks [])
-unfolding blank marks
+pub bits-blank : Bits blank (λ u. isIn u [])
+unfolding blank isIn
 bits-blank = record { size = length-replicate {A = ℕ} 256 0; bit = λ u h. rw (getD-replicate {A = ℕ} 256 u 0 0 h) }
 
 -- ── The parts of a term ──
@@ -117,11 +117,11 @@ down-end s z o u h d = record {
 
 -- ── The terms of a step ──
 
-one-mark : (a : Bool) → either a false ≡ (a || false)
+one-mark : (a : Bool) → either a false ≡ cond a true false
 one-mark true = refl
 one-mark false = refl
 
-two-marks : (a b : Bool) → either a (either b false) ≡ (a || (b || false))
+two-marks : (a b : Bool) → either a (either b false) ≡ cond a true (cond b true false)
 two-marks true b = refl
 two-marks false b = one-mark b
 
@@ -131,8 +131,8 @@ module _ (s : List ℕ) (k : ℕ) where
   used op j u = both (eqb (cell 1 op (j + 1)) 5) (eqb (stepField s k j) u)
 
   operands-are : (op : ℕ) → op < 6 → (u : ℕ)
-      → either (used op 0 u) (either (used op 1 u) false) ≡ marks (operands signature1 (actOf op (stepField s k 0) (stepField s k 1) (stepField s k 2) (stepField s k 3))) u
-  unfolding cell byte actOf operands marks mark
+      → either (used op 0 u) (either (used op 1 u) false) ≡ isIn u (operands signature1 (actOf op (stepField s k 0) (stepField s k 1) (stepField s k 2) (stepField s k 3)))
+  unfolding cell byte actOf operands isIn
   operands-are zero h u = rw (eqb-swap (stepField s k 0) u, eqb-swap (stepField s k 1) u) (two-marks (eqb u (stepField s k 0)) (eqb u (stepField s k 1)))
   operands-are (suc zero) h u = rw (eqb-swap (stepField s k 0) u) (one-mark (eqb u (stepField s k 0)))
   operands-are (suc (suc zero)) h u = refl
@@ -142,9 +142,9 @@ module _ (s : List ℕ) (k : ℕ) where
   operands-are (suc (suc (suc (suc (suc (suc op)))))) h u = absurd (omega arith)
 
   pub step-marked : (z o₁ o₂ o : List ℕ) → z ≡ blank → Put z o₁ (useAt s k 1) 1 → Put o₁ o₂ (useAt s k 0) 1 → DownPut s o₂ o → StepMarked s k o
-  unfolding stepAt role marks useAt
+  unfolding stepAt role isIn useAt
   step-marked z o₁ o₂ o e p q d = record {
     marked = λ r h.
-        let b : Bits z (marks []) = rw e bits-blank in
-        d .put (marks (operands signature1 (stepAt s k))) r (bits-as (operands-are (code s 1 (stepsAt s) k) (r .known-steps k h)) (bits-put q (bits-put p b)));
+        let b : Bits z (λ u. isIn u []) = rw e bits-blank in
+        d .put (λ u. isIn u (operands signature1 (stepAt s k))) r (bits-as (operands-are (code s 1 (stepsAt s) k) (r .known-steps k h)) (bits-put q (bits-put p b)));
   }

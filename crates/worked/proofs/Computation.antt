@@ -28,7 +28,7 @@ use Rattle.calculus.specs.Terms.{mapBuild, built, mapAct, operands, binders, bo
 use Rattle.calculus.specs.Tables.{isIn, entryTree, treesFrom, missing}
 use Rattle.calculus.specs.Figure2.{pick, extend}
 use Rattle.calculus.specs.Typing.{allowed}
-use Rattle.calculus.specs.Inference.{mark as calculus-mark, marks, wants as calculus-wants, needs, spread, down, byEntry, push, pushAll, needsAt, needsOf, atStep, typing, found, before, inferBy}
+use Rattle.calculus.specs.Inference.{mark as calculus-mark, wants as calculus-wants, needs, spread, down, byEntry, push, pushAll, needsAt, needsOf, atStep, typing, found, before, inferBy}
 use Rattle.calculus.specs.Version1.{atomType1}
 use Rattle.rendering.specs.Rendering.{binds as rendering-binds, duesOf, dues}
 use Rattle.rendering.specs.Judge.{sameSome, sameOption, meantBy, says, fits, findFrom, taken, turn, atEnd, onTurn, judgeFrom, judge}
@@ -50,5 +50,5 @@ use Rattle.worked.proofs.Computed.{inferred, checked, typingOf, expecte
 use Rattle.worked.specs.Marked.{examples}
 
 pub examples-computed : map computed examples ≡ map expected examples
-unfolding decide Option·elim bind ℕ-discrete byte word walk first some mark header rows cell fields fieldBytes width known atomKinds typeParts typeKnown answered least number placeOf code field role fieldOk fieldsOk entryOk sameEntry nodeOk alone listed joined marked countsOk lengthOk symbolOk sortOk stepInRange stepOk partAt hasPart useAt usesTerm named isBinder binds binder again twice bindsNew fieldLatest latest fieldInScope inScope typeAt list-countsOk list-lengthOk wants typeOkAt typeOk gives given statementOkAt statementOk index indexOk trace-countsOk trace-lengthOk within under lowerOf encoded meet parent1 depth1 code1 mapBuild built mapAct operands binders bound isIn entryTree treesFrom missing pick extend allowed calculus-mark marks calculus-wants needs spread down byEntry push pushAll needsAt needsOf atStep typing found before inferBy atomType1 rendering-binds duesOf dues sameSome sameOption meantBy says fits findFrom taken turn atEnd onTurn judgeFrom judge registerOf isBuilt parts buildEach buildEntry buildTerm stated translateFrom basicShape pairShape visible pairParts treeShape entryShape numberOf onLogged passes splitting perform andThen inRegisters execute run placeFrom placed made look eval runProcess bindAll sortOf entryOf actOf sortAt termAt stepAt twoCode valueOf valueAt twoOp halfOp statementBytes typeBytes headerBytes listBytes statementOf statementAt fiveBytes valueBytes directionNumber messageBytes traceOf runOf verdictCheck inferred checked typingOf expected fileOutcome listOutcome judgeOutcome startsOk ranOf resultOutcome runOutcome computed
+unfolding decide Option·elim bind ℕ-discrete byte word walk first some mark header rows cell fields fieldBytes width known atomKinds typeParts typeKnown answered least number placeOf code field role fieldOk fieldsOk entryOk sameEntry nodeOk alone listed joined marked countsOk lengthOk symbolOk sortOk stepInRange stepOk partAt hasPart useAt usesTerm named isBinder binds binder again twice bindsNew fieldLatest latest fieldInScope inScope typeAt list-countsOk list-lengthOk wants typeOkAt typeOk gives given statementOkAt statementOk index indexOk trace-countsOk trace-lengthOk within under lowerOf encoded meet parent1 depth1 code1 mapBuild built mapAct operands binders bound isIn entryTree treesFrom missing pick extend allowed calculus-mark calculus-wants needs spread down byEntry push pushAll needsAt needsOf atStep typing found before inferBy atomType1 rendering-binds duesOf dues sameSome sameOption meantBy says fits findFrom taken turn atEnd onTurn judgeFrom judge registerOf isBuilt parts buildEach buildEntry buildTerm stated translateFrom basicShape pairShape visible pairParts treeShape entryShape numberOf onLogged passes splitting perform andThen inRegisters execute run placeFrom placed made look eval runProcess bindAll sortOf entryOf actOf sortAt termAt stepAt twoCode valueOf valueAt twoOp halfOp statementBytes typeBytes headerBytes listBytes statementOf statementAt fiveBytes valueBytes directionNumber messageBytes traceOf runOf verdictCheck inferred checked typingOf expected fileOutcome listOutcome judgeOutcome startsOk ranOf resultOutcome runOutcome computed
 examples-computed = refl
