@@ -36,6 +36,10 @@ module _ {A : Type 0} {P : A → Type 0} where
   pub all-split : {x : A} {l : List A} → All P (x ∷ l) → P x × All P l
   all-split (all-cons p q) = (p, q)
 
+  pub all-parts : (k l : List A) → All P (k ++ l) → All P k × All P l
+  all-parts [] l a = (all-nil, a)
+  all-parts (x ∷ k) l (all-cons p a) = let (b, c) = all-parts k l a in (all-cons p b, c)
+
   pub all-append : {k l : List A} → All P k → All P l → All P (k ++ l)
   all-append all-nil q = q
   all-append (all-cons p ps) q = all-cons p (all-append ps q)

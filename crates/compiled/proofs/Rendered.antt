@@ -11,7 +11,7 @@ use Rattle.calculus.specs.Terms.{leaf, Term, Build, built, mapBuild, Act, send,
 use Rattle.calculus.specs.Tables.{Entry}
 use Rattle.calculus.specs.Scope.{All, all-nil, all-cons}
 use Rattle.calculus.specs.Version1.{signature1}
-use Rattle.calculus.proofs.Lists.{all-append}
+use Rattle.calculus.proofs.Lists.{all-append, all-parts}
 use Rattle.rendering.specs.Rendering.{halves, Due, whole, part, binds, duesOf, dues, Says, says-act, says-half, Dues, Follows, no-more, permitted, next-due}
 use Rattle.rendering.specs.Translation.{parts, registers}
 use Rattle.rendering.proofs.ActLaws.{ActZip, zip-send, zip-receive, zip-fresh, zip-compare, zip-split, zip-decrypt, BuildZip, zip-one, zip-two, zip-acts, zip-builds}
@@ -105,11 +105,6 @@ AllDue S ws = All (λ w. DueFits S (w .1)) ws
 numbered : {X : Type 0} {P : X → Type 0} (n : ℕ) (l : List X) → All P l → All (λ (w : ℕ × X). P (w .1)) (map (λ x. (n, x)) l)
 numbered n [] all-nil = all-nil
 numbered n (x ∷ l) (all-cons p q) = all-cons p (numbered n l q)
-
--- what all of two lists have, all of each have
-all-parts : {P : ℕ → Type 0} (k l : List ℕ) → All P (k ++ l) → All P k × All P l
-all-parts [] l a = (all-nil, a)
-all-parts (x ∷ k) l (all-cons p q) = let (u, v) = all-parts k l q in (all-cons p u, v)
 
 -- those that steps make due, which bind symbols below S
 pub dues-fit : (S n : ℕ) (P : List (Act signature1 (Term signature1))) → All (λ x. x < S) (bound signature1 P) → AllDue S (dues signature1 halves n P)

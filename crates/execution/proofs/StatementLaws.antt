@@ -12,11 +12,12 @@ use Rattle.calculus.specs.Version1.{encryption, signature1}
 use Rattle.running.specs.Lists.{Register, holds, execute}
 use Rattle.running.specs.Demand3.{builds, speaks, messages, typesOf}
 use Rattle.decoded_list.specs.Statements.{statementOf}
-use Rattle.execution.specs.Registers.{Given, valueIn}
-use Rattle.execution.specs.Execution.{Doing, acting, halving, building, executing, statementIn, executingAt, buildsAt, messagesAt, Does}
-use Rattle.execution.specs.declared.State.{State}
-use Rattle.execution.specs.declared.Step.{Step}
-use Rattle.execution.proofs.RegisterLaws.{value-right}
+use Rattle.run_parts.specs.Registers.{Given, valueIn}
+use Rattle.run_parts.proofs.RegisterLaws.{value-right}
+use Rattle.effects.specs.Effects.{Doing, acting, halving, building, Does}
+use Rattle.effects.specs.declared.State.{State}
+use Rattle.effects.specs.declared.Step.{Step}
+use Rattle.execution.specs.Execution.{executing, statementIn, executingAt, buildsAt, messagesAt}
 
 -- an op that is none of 0 to 8
 pub past-known : (op : ℕ) → ¬ (op ≡ 0) → ¬ (op ≡ 1) → ¬ (op ≡ 2) → ¬ (op ≡ 3) → ¬ (op ≡ 4) → ¬ (op ≡ 5) → ¬ (op ≡ 6) → ¬ (op ≡ 7) → ¬ (op ≡ 8) → 9 ≤ op

@@ -1,21 +1,12 @@
--- No second answer fits a run: the promise determines the answer and each byte of both buffers. Assumes nothing.
+-- No second answer tells of a run: how it went determines the answer and each byte of both buffers. Assumes nothing.
 use mathlib.Core.Path.{_≡_, sym, _∙_}
 use mathlib.Core.List.{List}
-use Prim.Native.Nat.{ℕ, _+_, _*_, _≤_}
-use lib.ListN.{length}
-use Rattle.answers.specs.Ladder.{least}
-use Rattle.answers.specs.declared.Check.the-variants.{Pass}
-use Rattle.list.specs.Faults.{listRungs}
-use Rattle.trace.specs.Layout.{values, startings}
-use Rattle.trace.specs.Faults.{traceRungs}
+use Prim.Native.Nat.{ℕ}
 use Rattle.calculus.specs.Terms.{Atom}
 use Rattle.calculus.specs.Tables.{Entry}
 use Rattle.calculus.specs.Version1.{signature1}
 use Rattle.running.specs.Acts.{Result}
-use Rattle.running.specs.Demand3.{builds, messages}
-use Rattle.decoded_list.specs.Statements.{statementsOf}
-use Rattle.execution.proofs.ListTypes.{types-there}
-use Rattle.machine.specs.Statements.{Told, StatementsRun}
+use Rattle.machine.specs.Statements.{Told}
 use Rattle.machine.specs.declared.Ran.{Ran}
 
 same-answer : (r q : Ran) → r .ending ≡ q .ending → r .place ≡ q .place → r .used ≡ q .used → r .logged ≡ q .logged → r .count ≡ q .count → r ≡ q
@@ -31,11 +22,3 @@ told-once {r = r} {q = q} a b = (
   a .values-written ∙ sym (b .values-written),
   a .messages-written ∙ sym (b .messages-written),
 )
-
--- two answers, with two contents of the buffers, that both meet the promise are equal
-pub run-once : (l tr z v v′ y o o′ : List ℕ) (r q : Ran) → StatementsRun l tr z v y o r → StatementsRun l tr z v′ y o′ q
-    → least (listRungs l (startings tr)) ≡ Pass → least (traceRungs tr) ≡ Pass
-    → 5 * (values tr + builds signature1 (statementsOf l)) ≤ length z → 5 * messages signature1 (statementsOf l) ≤ length y → (r ≡ q) × (v ≡ v′) × (o ≡ o′)
-run-once l tr z v v′ y o o′ r q a b pl pt vr mr =
-    let (As, t) = types-there l (startings tr) pl in
-    told-once (a .ran As t pl pt vr mr) (b .ran As t pl pt vr mr)

@@ -17,11 +17,12 @@ use Rattle.running.specs.Acts.{Logged, Ending, finished, numberOf, Out, goes, s
 use Rattle.running.specs.Lists.{Register, execute, run, table}
 use Rattle.running.specs.Demand3.{builds, messages, typesOf}
 use Rattle.decoded_list.specs.Statements.{statementAt, statementsOf}
-use Rattle.execution.specs.Types.{TypesAre}
-use Rattle.execution.specs.Execution.{executing, statementIn, executingAt, buildsAt, messagesAt, Keeps, Room, Comes, comes-on, comes-end, Does}
-use Rattle.execution.specs.declared.State.{State}
-use Rattle.execution.specs.declared.Step.{Step}
-use Rattle.execution.specs.declared.Step.the-variants.{Next, Stop}
+use Rattle.run_parts.specs.Types.{TypesAre}
+use Rattle.effects.specs.Effects.{Keeps, Room, Comes, comes-on, comes-end, Does}
+use Rattle.effects.specs.declared.State.{State}
+use Rattle.effects.specs.declared.Step.{Step}
+use Rattle.effects.specs.declared.Step.the-variants.{Next, Stop}
+use Rattle.execution.specs.Execution.{executing, statementIn, executingAt, buildsAt, messagesAt}
 use Rattle.machine.specs.Statements.{Told}
 use Rattle.machine.specs.Running.{endedAs, stoppedAs, Ready, runFrom, RunFrom}
 use Rattle.machine.specs.declared.Ran.{Ran}

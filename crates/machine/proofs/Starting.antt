@@ -19,9 +19,9 @@ use Rattle.running.specs.Lists.{Register, symbolRegister}
 use Rattle.decoded.specs.Values.{valuesOf}
 use Rattle.decoded.proofs.ValueLaws.{values-length}
 use Rattle.value_table.specs.Kept.{Copied}
-use Rattle.execution.specs.Registers.{Given, Gives}
-use Rattle.execution.specs.Messages.{Said}
-use Rattle.execution.proofs.ActLaws.{given-symbol}
+use Rattle.run_parts.specs.Registers.{Given, Gives}
+use Rattle.run_parts.specs.Messages.{Said}
+use Rattle.run_parts.proofs.RegisterLaws.{given-symbol}
 use Rattle.machine.specs.Statements.{traceOf, runOf, StatementsRun}
 use Rattle.machine.specs.Running.{startRegisters, zeros, Started, runFrom, RunFrom}
 use Rattle.machine.specs.declared.Ran.{Ran}

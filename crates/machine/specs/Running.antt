@@ -14,12 +14,12 @@ use Rattle.running.specs.Acts.{typed, Result}
 use Rattle.running.specs.Lists.{Register, symbolRegister, run, table}
 use Rattle.running.specs.Demand3.{builds, messages, typesOf}
 use Rattle.decoded_list.specs.Statements.{statementsOf}
-use Rattle.execution.specs.Registers.{Given}
-use Rattle.execution.specs.Types.{TypesAre}
-use Rattle.execution.specs.Execution.{Keeps}
-use Rattle.execution.specs.declared.State.{State}
-use Rattle.execution.specs.declared.Step.{Step}
-use Rattle.execution.specs.declared.Step.the-variants.{Next, Stop}
+use Rattle.run_parts.specs.Registers.{Given}
+use Rattle.run_parts.specs.Types.{TypesAre}
+use Rattle.effects.specs.Effects.{Keeps}
+use Rattle.effects.specs.declared.State.{State}
+use Rattle.effects.specs.declared.Step.{Step}
+use Rattle.effects.specs.declared.Step.the-variants.{Next, Stop}
 use Rattle.machine.specs.Statements.{Told}
 use Rattle.machine.specs.declared.Ran.{Ran}
 

@@ -19,8 +19,8 @@ use Rattle.running.specs.Demand3.{Trace, builds, messages, typesOf, listRun}
 use Rattle.decoded.specs.Values.{valuesOf}
 use Rattle.decoded_list.specs.Statements.{statementsOf}
 use Rattle.value_table.specs.Values.{valueBytes}
-use Rattle.execution.specs.Messages.{messageBytes}
-use Rattle.execution.specs.Types.{TypesAre}
+use Rattle.run_parts.specs.Messages.{messageBytes}
+use Rattle.run_parts.specs.Types.{TypesAre}
 use Rattle.machine.specs.declared.Ran.{Ran}
 
 -- what a trace's bytes stand for: its values, the starting values, the supply

@@ -1,7 +1,7 @@
 // The machine that runs a judged list on a trace: statement after statement, until one ends the run.
 // The values go to one lent buffer, after a copy of the trace's, and the messages to another; bytes beyond keep their values.
-use execution::State;
-use execution::Step;
+use effects::State;
+use effects::Step;
 ghost use mathlib.Core.Path.{_≡_};
 ghost use Rattle.trace.specs.Layout.{starting};
 ghost use Rattle.machine.specs.Running.{endedAs, stoppedAs, Started, RunFrom};
@@ -54,7 +54,7 @@ fn start(trace: &[u8], registers: &mut [u32; 608]) -> u16
     let mut given = 0;
     let mut i = 0;
     while i < n {
-        given = execution::give(registers, given, 2 * starting_at(trace, i) as u32 + 1);
+        given = run_parts::give(registers, given, 2 * starting_at(trace, i) as u32 + 1);
         i += 1;
     }
     given

@@ -22,7 +22,7 @@ pub data Meaning : Type 0 where
 abbrev pub sameMeant : Discrete Meaning
 sameMeant = sameMeaning ℕ-discrete
 
--- and so is that of meanings that may be missing
+-- where equality of a and b is decided, so is that of `some a` and `some b`
 unfoldable pub sameSome : {X : Type 0} {a b : X} → Dec (a ≡ b) → Dec (_≡_ {A = Option X} (some a) (some b))
 sameSome (yes e) = yes (ap some e)
 sameSome (no n) = no (λ e. n (Option·some-inj .0 e))
@@ -79,12 +79,12 @@ module _ (𝓢 : Signature) where
   findFrom f o i [] = none
   findFrom f o i (e ∷ es) = cond (fits f o e) (some i) (findFrom f o (suc i) es)
 
-  -- what a statement adds to the meanings, and what is due after it; none: it is neither the next one due nor a permitted build
+  -- of a statement that says what is due next: what it adds to the meanings, and what is due after it; none of any other
   unfoldable pub taken : List Meaning → Statement 𝓢 → DuesByIndex → Option (List Meaning × DuesByIndex)
   taken ms s [] = none
   taken ms s ((n, w) ∷ ws) = cond (says ms s w) (some (map symbol (binds 𝓢 w), ws)) none
 
-  -- one turn of the judge
+  -- one turn of the judge: what a statement adds to the meanings, and what is due after it; none: it is neither the next one due nor a permitted build
   unfoldable pub turn : List (Entry 𝓢 ℕ) → List Meaning → DuesByIndex → Statement 𝓢 → Option (List Meaning × DuesByIndex)
   turn es ms ws (act a) = taken ms (act a) ws
   turn es ms ws (half d p x) = taken ms (half d p x) ws

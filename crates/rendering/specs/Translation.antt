@@ -13,7 +13,7 @@ use Rattle.calculus.specs.Typing.{Checked}
 use Rattle.rendering.specs.Rendering.{Splitting, Due, whole, part, duesOf, dues, Beginning, Faithful}
 use Rattle.rendering.specs.Judge.{Meaning, symbol, term, sameMeant, meant, accepted, judge}
 
--- the first register that means m
+-- the first register that means m; where none does, the number after the last
 unfoldable pub registerOf : List Meaning → Meaning → ℕ
 registerOf [] m = 0
 registerOf (n ∷ ms) m = cond (decide (sameMeant m n)) 0 (suc (registerOf ms m))

@@ -136,10 +136,3 @@ needing-messages s = counted s 2 (messages signature1) (unfold messages in refl)
   where
     one : (i : ℕ) → oneIf s (statementsAt s) i 2 ≡ messages signature1 (statementAt s i ∷ [])
     one i = unfold oneIf statementAt in op-messages (opAt s i) (operandAt s i 0) (operandAt s i 1) (operandAt s i 2)
-
--- both are at most N
-pub builds-few : (s : List ℕ) → builds signature1 (statementsOf s) ≤ statements s
-builds-few s = omega (arith, needing-builds s, needing-small s 1 (statements s))
-
-pub messages-few : (s : List ℕ) → messages signature1 (statementsOf s) ≤ statements s
-messages-few s = omega (arith, needing-messages s, needing-small s 2 (statements s))

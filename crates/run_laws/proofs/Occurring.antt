@@ -1,6 +1,6 @@
 -- The symbols that occur in the process of a table are below S. Assumes that parts are lower, and that leaves and binders are in range.
 use mathlib.Core.Path.{_≡_, refl}
-use mathlib.Core.List.{List, [], _∷_, _++_, map}
+use mathlib.Core.List.{List, [], _∷_, map}
 use Prim.Native.Nat.{ℕ, zero, suc, _<_}
 use native.Mathlib.Omega.{arith}
 use lib.ListN.{length}
@@ -10,16 +10,11 @@ use Rattle.calculus.specs.Scope.{In, here, there, All, all-nil, all-cons, Lacks
 use Rattle.calculus.specs.Typing.{Checked}
 use Rattle.calculus.specs.Version1.{signature1}
 use Rattle.calculus.proofs.TableLaws.{denoted-leaf, denoted-one, denoted-two}
-use Rattle.calculus.proofs.Lists.{all-of}
+use Rattle.calculus.proofs.Lists.{all-of, all-parts}
 use Rattle.calculus.proofs.TableLaws.{binders-map}
 use Rattle.rendering.specs.Translation.{InRange}
 use Rattle.decoded.proofs.Steps.{operands-mapped}
 use Rattle.run_laws.proofs.Agreeing.{TermBelow, StepBelow}
-
--- the two parts of a list
-all-parts : {P : ℕ → Type 0} (k l : List ℕ) → All P (k ++ l) → All P k × All P l
-all-parts [] l a = (all-nil, a)
-all-parts (x ∷ k) l (all-cons p a) = let (b, c) = all-parts k l a in (all-cons p b, c)
 
 module _ (t : Table signature1) (c : Checked signature1 t) (r : InRange signature1 t) where
   -- term i

@@ -1,13 +1,14 @@
--- Demand 3 of the run service, said of its own answer and bytes. Assumes nothing.
+-- The statement index and demand 3 of the run service, said of its own answer and bytes. Assumes nothing.
 use mathlib.Core.Path.{_≡_, refl, sym, ap, _∙_}
-use mathlib.Core.List.{List, [], _∷_, _++_, append-assoc}
-use Prim.Native.Nat.{ℕ, zero, suc, _+_, _-_}
+use mathlib.Core.List.{List, [], _∷_, _++_, map, append-assoc}
+use Prim.Native.Nat.{ℕ, zero, suc, _+_, _-_, _<_}
 use native.Mathlib.Omega.{arith}
 use lib.ListN.{length, drop, length-append, length-map}
 use lib.Seq.{drop-at}
 use Rattle.answers.specs.declared.Check.the-variants.{Pass}
 use Rattle.entries.specs.Tiling.{listed}
 use Rattle.entries.proofs.Tiling.{listed-length}
+use Rattle.list.specs.Layout.{statements}
 use Rattle.trace.specs.Layout.{supplies, supply, startings, starting}
 use Rattle.types.specs.Types.{Ty}
 use Rattle.types.specs.Version1.{T}
@@ -15,18 +16,19 @@ use Rattle.calculus.specs.Terms.{Value, Step, Process}
 use Rattle.calculus.specs.Tables.{process}
 use Rattle.calculus.specs.Version1.{signature1}
 use Rattle.running.specs.Acts.{Ending, finished, no-supply, not-equal, wrong-key, received-lacks, opened-lacks, not-fresh, fresh-lacks, no-pair, no-ciphertext, numberOf, Logged, typed}
+use Rattle.running.specs.Lists.{symbolRegister}
 use Rattle.running.specs.Processes.{Bindings, Moves, moves-out, moves-in, moves-new, moves-match, moves-split, moves-open, StuckBy, stuck-in, stuck-new, stuck-fresh, stuck-match, stuck-split, stuck-key, stuck-seal, Reaches, stays, moves, Ends, ends-finished, ends-stuck}
 use Rattle.running.specs.Demand3.{ByType, by-received, by-opened, by-fresh, stepOf, valueOf, supplied, Starts, typesOf, start, listRun, leftOver, Lacking, Demand3}
-use Rattle.running.proofs.Version1Laws.{process-by-rules1}
+use Rattle.running.proofs.Version1Laws.{process-by-rules1, runs-end-within1}
 use Rattle.decoded.specs.Table.{tableOf, freeOf}
 use Rattle.decoded.specs.Values.{valuesOf}
-use Rattle.decoded_list.specs.Statements.{statementsOf}
+use Rattle.decoded_list.specs.Statements.{statementAt, statementsOf}
 use Rattle.machine.specs.Statements.{traceOf, runOf, Told}
 use Rattle.machine.specs.declared.Ran.{Ran}
 use Rattle.starting.specs.Fourteen.{Fourteen, starts}
 use Rattle.run_laws.proofs.Runs.{accepted-runs-keep-demand-3}
 use Rattle.run_service.specs.Runs.{Runnable, RunAnswered, ran}
-use Rattle.run_service.specs.Read.{processOf, NotByType, KeepsDemand3}
+use Rattle.run_service.specs.Read.{processOf, NotByType, EndsInList, KeepsDemand3}
 use Rattle.run_service.proofs.Stages.{accepted}
 use Rattle.run_service.proofs.ReadBack.{told-terms}
 
@@ -122,7 +124,7 @@ ended (ends-stuck s) = stuck s
 -- the process's run leaves the end of the supply
 process-tail : (t tr : List ℕ) → Tail (supplied signature1 (traceOf tr)) (processOf t tr .rest)
 process-tail t tr =
-    let (τ, sv, r, e) = process-by-rules1 (process signature1 (tableOf t)) (start signature1 (tableOf t) (traceOf tr)) (supplied signature1 (traceOf tr)) in
+    let (τ, sv, r, e, p) = process-by-rules1 (process signature1 (tableOf t)) (start signature1 (tableOf t) (traceOf tr)) (supplied signature1 (traceOf tr)) in
     tail-further (reached r) (ended e)
 
 -- as many as the trace supplies
@@ -154,6 +156,18 @@ module _ (t l tr z y v o : List ℕ) (r : Ran) (s : Runnable t l tr z y) (m : To
       let a : length rest ≡ length (R .rest) = ap (λ (k : List Val). length k) e ∙ length-map (R .rest) (valueOf signature1 (R .store)) in
       rw (a, supplied-length tr) (m .used)
 
+  -- where the run ends, carried over to the answer
+  in-list : EndsInList l r
+  unfolding runOf numberOf
+  in-list =
+      let R = listRun signature1 (typed (typesOf signature1 As)) (statementsOf l) (traceOf tr) in
+      let n : length (statementsOf l) ≡ statements l = listed-length (statementAt l) 0 (statements l) in
+      let w = runs-end-within1 (typed (typesOf signature1 As)) (statementsOf l) (traceOf tr .values) (map symbolRegister (traceOf tr .starting)) (traceOf tr .supply) in
+      record {
+        finished-after = λ e. m .place ∙ w .finished-after (number-once _ finished (sym (m .ending) ∙ e)) ∙ n;
+        stopped-before = λ e. let h : R .place < length (statementsOf l) = w .stopped-before (λ q. e (m .ending ∙ ap numberOf q)) in omega (arith, m .place, n);
+      }
+
   -- demand 3 of the meaning layer's run
   demand : Demand3 signature1 (tableOf t) (typesOf signature1 As) (statementsOf l) (traceOf tr)
   demand =
@@ -182,3 +196,7 @@ module _ (t l tr z y v o : List ℕ) (r : Ran) (s : Runnable t l tr z y) (m : To
 -- a run that nothing refuses keeps demand 3
 pub run-keeps-demand-3 : (t l tr z y v o : List ℕ) (r : Ran) → RunAnswered t l tr z y v o Pass r → KeepsDemand3 t l tr v o r
 run-keeps-demand-3 t l tr z y v o r (ran s m) = keeps t l tr z y v o r s m
+
+-- its statement index is N where it finished, else below N
+pub run-ends-in-list : (t l tr z y v o : List ℕ) (r : Ran) → RunAnswered t l tr z y v o Pass r → EndsInList l r
+run-ends-in-list t l tr z y v o r (ran s m) = in-list t l tr z y v o r s m

@@ -18,7 +18,7 @@ use Rattle.decoded_list.specs.Decoded.{Decoded}
 use Rattle.decoded_list.specs.Statements.{statementsOf}
 use Rattle.value_table.specs.Values.{tableAt, fiveBytes}
 use Rattle.value_table.proofs.Keeping.{kept-table}
-use Rattle.execution.specs.Messages.{directionNumber, messageBytes}
+use Rattle.run_parts.specs.Messages.{directionNumber, messageBytes}
 use Rattle.machine.specs.Statements.{traceOf, runOf, Told}
 use Rattle.machine.specs.declared.Ran.{Ran}
 use Rattle.run_service.specs.Runs.{RunAnswered, ran}

@@ -1,11 +1,12 @@
--- What stands in the two buffers after a run, read back as terms; and demand 3, said of a run's own answer and bytes. Assumes nothing:
--- these are definitions.
+-- What stands in the two buffers after a run, read back as terms; the statement index and demand 3, said of a run's own answer and bytes.
+-- Assumes nothing: these are definitions.
 use mathlib.Core.Path.{_≡_}
 use mathlib.Core.List.{List, _++_, map}
-use Prim.Native.Nat.{ℕ, zero, suc, _+_, _*_, _≤_}
+use Prim.Native.Nat.{ℕ, zero, suc, _+_, _*_, _≤_, _<_}
 use lib.ListN.{drop}
 use Rattle.base.specs.Bytes.{byte, word}
 use Rattle.entries.specs.Tiling.{listed}
+use Rattle.list.specs.Layout.{statements}
 use Rattle.trace.specs.Layout.{supplies}
 use Rattle.calculus.specs.Terms.{Value}
 use Rattle.calculus.specs.Tables.{process}
@@ -37,6 +38,13 @@ messagesIn o n = listed (messageIn o) 0 n
 -- the messages of the answer r, with the values' buffer v and the messages' buffer o, as terms
 unfoldable pub messagesRead : List ℕ → List ℕ → Ran → List (Logged (Value signature1))
 messagesRead v o r = map (onLogged (valueOf signature1 (tableAt v (r .count)))) (messagesIn o (r .logged))
+
+-- ── The statement index ──
+
+-- of the answer r: the list's N where the run finished, else below N
+pub record EndsInList (l : List ℕ) (r : Ran) : Type 0 where
+  pub finished-after : r .ending ≡ 0 → r .place ≡ statements l
+  pub stopped-before : ¬ (r .ending ≡ 0) → r .place < statements l
 
 -- ── Demand 3 ──
 

@@ -1,6 +1,7 @@
 -- Laws of `running`, for the proofs of the crates above.
 pub mod Registers
 pub mod Binding
+pub mod Places
 pub mod Simulation
 pub mod Rules
 pub mod Types

@@ -11,7 +11,7 @@ use native.Mathlib.Omega.{arith}
 use lib.ListN.{length, length-append, List·getD-append}
 use lib.Seq.{getD-append-add}
 use Rattle.calculus.specs.Signature.{Signature}
-use Rattle.calculus.specs.Terms.{Atom, atom, Value, Build, built, mapBuild}
+use Rattle.calculus.specs.Terms.{Atom, atom, leaf, Value, Build, built, mapBuild}
 use Rattle.calculus.specs.Tables.{Entry, leafEntry, kindEntry, entryTree, entryAt, treeAt, treesFrom, Closed, Unrepeated, Lower}
 use Rattle.calculus.proofs.TableLaws.{tree-same, trees-length, denoted-by-entries}
 use Rattle.running.specs.Lists.{sameValueEntry, placeFrom, placed, made}
@@ -104,7 +104,7 @@ module _ (𝓢 : Signature) where
     grown-grows = record {
       more = e ∷ [];
       extends = refl;
-      keep = λ i h. rw (trees-snoc [] es e) (List·getD-append (treesFrom 𝓢 z [] es) _ (Rattle.calculus.specs.Terms.leaf z) i (let q = trees-length 𝓢 z es in omega arith));
+      keep = λ i h. rw (trees-snoc [] es e) (List·getD-append (treesFrom 𝓢 z [] es) _ (leaf z) i (let q = trees-length 𝓢 z es in omega arith));
     }
 
     grown-stands : valueOf 𝓢 (es ++ (e ∷ [])) (length es) ≡ entryTree 𝓢 (valueOf 𝓢 es) e

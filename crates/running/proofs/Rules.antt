@@ -3,9 +3,9 @@ use mathlib.Core.Path.{ap₂, _≡_, refl, sym, ap, _∙_}
 use mathlib.Core.Bool.{Bool, true, false, cond, not, _&&_, decide, false≢true}
 use mathlib.Core.Option.{Option, none, some}
 use mathlib.Core.List.{List, [], _∷_, _++_}
-use Prim.Native.Nat.{ℕ}
+use Prim.Native.Nat.{ℕ, _≤_, zero-le, suc-le-suc}
 use native.Mathlib.Omega.{arith}
-use lib.ListN.{drop}
+use lib.ListN.{length, drop}
 use Rattle.calculus.specs.Signature.{Signature, pairing, seal, Fit, itself, twins}
 use Rattle.calculus.specs.Terms.{Atom, leaf, one, two, Term, Value, sameValue, send, receive, fresh, compare, split, decrypt, mapAct, Step, Process}
 use Rattle.calculus.specs.Scope.{all-nil, all-cons}
@@ -136,17 +136,17 @@ module _ (𝓢 : Signature) where
   R = Result Val (Unit {0})
 
   abbrev ByRules : Process 𝓢 → Bindings 𝓢 → List Val → R → Type 0
-  ByRules P σ su r = (τ : Bindings 𝓢) × (sv : List Val) × Reaches 𝓢 P σ su (r .log) (drop (r .place) P) τ sv × Ends 𝓢 τ sv (drop (r .place) P) (r .ending) (r .rest)
+  ByRules P σ su r = (τ : Bindings 𝓢) × (sv : List Val) × Reaches 𝓢 P σ su (r .log) (drop (r .place) P) τ sv × Ends 𝓢 τ sv (drop (r .place) P) (r .ending) (r .rest) × (r .place ≤ length P)
 
   by-step : {σ : Bindings 𝓢} {d : Step 𝓢} {su : List Val} {o : Out Val (ℕ × Val)} (P : Process 𝓢) (k : Bindings 𝓢 → List Val → R) → Right σ d su o
       → ((bs : Bindings 𝓢) (sv : List Val) → ByRules P (σ ++ bs) sv (k bs sv)) → ByRules (d ∷ P) σ su (andThen tt o k)
   unfolding andThen
-  by-step P k (right-moves {bs = bs} {sv = sv} m) h = let r = h bs sv in (r .0, r .1, moves m (r .2), r .3)
-  by-step {σ} {su = su} P k (right-stuck s) h = (σ, su, stays, ends-stuck s)
+  by-step P k (right-moves {bs = bs} {sv = sv} m) h = let r = h bs sv in (r .0, r .1, moves m (r .2), r .3, suc-le-suc (r .4))
+  by-step {σ} {su = su} P k (right-stuck s) h = (σ, su, stays, ends-stuck s, zero-le)
 
   pub process-by-rules : ProcessByRules 𝓢
   unfolding runProcess
-  process-by-rules [] σ su = (σ, su, stays, ends-finished)
+  process-by-rules [] σ su = (σ, su, stays, ends-finished, zero-le)
   process-by-rules (d ∷ P) σ su = by-step P (λ bs sv. runProcess 𝓢 untyped P (σ ++ bs) sv) (right σ su d) (λ bs sv. process-by-rules P (σ ++ bs) sv)
 
   -- ── a stuck step cannot be taken ──

@@ -154,7 +154,7 @@ module _ (𝓢 : Signature) where
         → Same (act a ∷ ss) (andThen tt (inRegisters o) kl) (andThen tt o kp)
     unfolding andThen inRegisters closes
     act-case a ss kl kp (binds-as {ms = ms} {bs = bs} {su = su} q) f = closing (act a) ss (kl (symbolRegisters 𝓢 bs) su) (kp bs su) ms (λ n. refl) (f bs su q)
-    act-case a ss kl kp (binds-not {e = e} {ms = ms} {su = su}) f = both-stop (act a ∷ ss) e ms su
+    act-case a ss kl kp (binds-not {e = e} {ms = ms} {su = su} n) f = both-stop (act a ∷ ss) e ms su
 
     act-step : {ms : List (Term 𝓢)} (a : Act 𝓢 ℕ) (d : Step 𝓢) (ss : List S) (rs : List (Register Val)) (P : Process 𝓢) (σ : Bindings 𝓢) (su : List Val) → Inv ms rs σ → ActZip 𝓢 (Names 𝓢 ms) a d
         → ((bs : Bindings 𝓢) (su′ : List Val) → symbolsOf 𝓢 bs ≡ binders 𝓢 d → Same ss (runL ss (rs ++ symbolRegisters 𝓢 bs) su′) (runP P (σ ++ bs) su′))

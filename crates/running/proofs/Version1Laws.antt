@@ -3,9 +3,12 @@ use mathlib.Core.Path.{refl}
 use Rattle.calculus.specs.Version1.{encryption, signature1}
 use Rattle.calculus.proofs.Version1Laws.{laws1}
 use Rattle.running.specs.Values.{FreshDecided}
-use Rattle.running.specs.Processes.{StuckCannotMove, ProcessByRules, RulesGiveOneAnswer}
+use Rattle.running.specs.Acts.{Tests}
+use Rattle.running.specs.Lists.{table, RunsEndWithin}
+use Rattle.running.specs.Processes.{StuckCannotMove, ProcessByRules, ProcessesEndWithin, RulesGiveOneAnswer}
 use Rattle.running.specs.Demand3.{OneSealEach, CanonicalForms, VisibleByIndex, Demand3Holds, AcceptedListsKeepDemand3, ListsRunAsProcesses, ListsAgree, BuffersSuffice}
 use Rattle.running.proofs.Rules.{fresh-decided, stuck-cannot-move, process-by-rules, rules-give-one-answer}
+use Rattle.running.proofs.Places.{runs-end-within, processes-end-within}
 use Rattle.running.proofs.Types.{canonical-forms}
 use Rattle.running.proofs.Demand3Laws.{visible-by-index, demand-3-holds, accepted-lists-keep-demand-3, lists-run-as-processes, lists-agree, buffers-suffice}
 
@@ -17,6 +20,12 @@ fresh-decided1 = fresh-decided signature1
 
 pub process-by-rules1 : ProcessByRules signature1
 process-by-rules1 = process-by-rules signature1
+
+pub processes-end-within1 : ProcessesEndWithin signature1
+processes-end-within1 = processes-end-within signature1
+
+pub runs-end-within1 : (ts : Tests signature1) → RunsEndWithin signature1 (table signature1) ts
+runs-end-within1 ts = runs-end-within signature1 (table signature1) ts
 
 pub stuck-cannot-move1 : StuckCannotMove signature1
 stuck-cannot-move1 = stuck-cannot-move signature1

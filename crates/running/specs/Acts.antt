@@ -1,8 +1,9 @@
 -- What one act does, over values that are trees or indexes: list and process share this definition. Assumes nothing.
+use mathlib.Core.Path.{_≡_}
 use mathlib.Core.Bool.{Bool, true, cond, _&&_}
 use mathlib.Core.Option.{Option, none, some}
 use mathlib.Core.List.{List, [], _∷_, _++_}
-use Prim.Native.Nat.{ℕ, suc}
+use Prim.Native.Nat.{ℕ, suc, _<_}
 use Rattle.types.specs.Types.{Ty}
 use Rattle.calculus.specs.Signature.{Signature}
 use Rattle.calculus.specs.Terms.{Act, send, receive, fresh, compare, split, decrypt}
@@ -106,3 +107,8 @@ after ms r = record { ending = r .ending; place = suc (r .place); rest = r .rest
 unfoldable pub andThen : {W B S : Type 0} → S → Out W B → (List B → List W → Result W S) → Result W S
 andThen st (goes ms bs su) k = after ms (k bs su)
 andThen st (stops e ms su) k = ended e ms su st
+
+-- of n statements or steps: the place is n where they finished, else that of one of them
+pub record EndsWithin {W S : Type 0} (n : ℕ) (r : Result W S) : Type 0 where
+  pub finished-after : r .ending ≡ finished → r .place ≡ n
+  pub stopped-before : ¬ (r .ending ≡ finished) → r .place < n

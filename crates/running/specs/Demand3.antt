@@ -4,7 +4,7 @@ use mathlib.Core.Path.{_≡_}
 use mathlib.Core.Bool.{true, false}
 use mathlib.Core.Option.{some}
 use mathlib.Core.List.{List, [], _∷_, _++_, map}
-use Prim.Native.Nat.{ℕ, zero, suc, _+_, _<_, _≤_, _-_}
+use Prim.Native.Nat.{ℕ, zero, suc, _+_, _<_, _≤_}
 use lib.ListN.{length, drop, getElem?, getD}
 use Rattle.types.specs.Types.{Ty, Message}
 use Rattle.calculus.specs.Signature.{Signature}
@@ -125,10 +125,6 @@ module _ (𝓢 : Signature) where
     -- the supply that it left, as terms
     abbrev pub leftOver : List (Value 𝓢)
     leftOver = map (valueOf (listRun .store)) (listRun .rest)
-
-    -- the supplies used
-    abbrev pub used : ℕ
-    used = length (tr .supply) - length (listRun .rest)
 
     -- the step of the statement at which it stopped
     abbrev pub stoppedAt : ℕ

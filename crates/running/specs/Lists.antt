@@ -9,7 +9,7 @@ use Rattle.calculus.specs.Signature.{Signature, sameTwo}
 use Rattle.calculus.specs.Terms.{Atom, sameAtom, Value, Build, sameBuild, mapBuild, built, mapAct, Side, left, right, Statement, act, half, build}
 use Rattle.calculus.specs.Tables.{Entry, sameEntry, kindEntry}
 use Rattle.running.specs.Values.{View, pairParts, tree, index}
-use Rattle.running.specs.Acts.{Out, goes, stops, finished, no-pair, Tests, perform, Result, ended, andThen}
+use Rattle.running.specs.Acts.{Out, goes, stops, finished, no-pair, Tests, perform, Result, ended, andThen, EndsWithin}
 
 -- a register: does it mean a symbol, and its value
 pub record Register (W : Type 0) : Type 0 where
@@ -65,6 +65,10 @@ module _ (𝓢 : Signature) where
     unfoldable pub run : List (Statement 𝓢) → S → List (Register W) → List W → Result W S
     run [] st rs su = ended finished [] su st
     run (s ∷ ss) st rs su = let o = execute st rs su s in andThen (o .0) (o .1) (λ new su′. run ss (o .0) (rs ++ new) su′)
+
+    -- the statement index of a run's answer: N where it finished, else below N
+    abbrev pub RunsEndWithin : Type 0
+    RunsEndWithin = (ss : List (Statement 𝓢)) (st : S) (rs : List (Register W)) (su : List W) → EndsWithin (length ss) (run ss st rs su)
 
   -- ── The value table ──
 

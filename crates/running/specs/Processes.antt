@@ -2,13 +2,13 @@
 use mathlib.Core.Path.{_≡_}
 use mathlib.Core.Bool.{cond}
 use mathlib.Core.List.{List, [], _∷_, _++_, map}
-use Prim.Native.Nat.{ℕ}
+use Prim.Native.Nat.{ℕ, _≤_}
 use lib.Dec.{eqb}
-use lib.ListN.{drop}
+use lib.ListN.{length, drop}
 use Rattle.calculus.specs.Signature.{Signature, pairing, seal, Fit, itself, twins}
 use Rattle.calculus.specs.Terms.{Atom, atom, leaf, one, two, Term, Value, send, receive, fresh, compare, split, decrypt, mapAct, Step, Process}
 use Rattle.running.specs.Values.{Fresh, tree}
-use Rattle.running.specs.Acts.{Ending, finished, no-supply, not-equal, wrong-key, not-fresh, no-pair, no-ciphertext, Logged, logged, sent, received, Tests, untyped, perform, Result, ended, andThen}
+use Rattle.running.specs.Acts.{Ending, finished, no-supply, not-equal, wrong-key, not-fresh, no-pair, no-ciphertext, Logged, logged, sent, received, Tests, untyped, perform, Result, ended, andThen, EndsWithin}
 
 module _ (𝓢 : Signature) where
   -- the symbols bound so far, with their values
@@ -83,7 +83,11 @@ module _ (𝓢 : Signature) where
   -- the function's answer is what the rules give: after `place` steps with these messages the process has ended, for that cause and with that supply left
   abbrev pub ProcessByRules : Type 0
   ProcessByRules = (P : Process 𝓢) (σ : Bindings) (su : List (Value 𝓢)) → let r = runProcess untyped P σ su in
-      (τ : Bindings) × (sv : List (Value 𝓢)) × Reaches P σ su (r .log) (drop (r .place) P) τ sv × Ends τ sv (drop (r .place) P) (r .ending) (r .rest)
+      (τ : Bindings) × (sv : List (Value 𝓢)) × Reaches P σ su (r .log) (drop (r .place) P) τ sv × Ends τ sv (drop (r .place) P) (r .ending) (r .rest) × (r .place ≤ length P)
+
+  -- the step at which it ends: the number of steps where it finished, else below it
+  abbrev pub ProcessesEndWithin : Type 0
+  ProcessesEndWithin = (ts : Tests 𝓢) (P : Process 𝓢) (σ : Bindings) (su : List (Value 𝓢)) → EndsWithin (length P) (runProcess ts P σ su)
 
   -- the rules give one answer: two ends that are reached from one start are one
   abbrev pub RulesGiveOneAnswer : Type 0

@@ -1,6 +1,6 @@
 -- Number 10 by Figure 2 as it is printed: a sound table is refused for its types exactly if no typing exists, and the place is the highest step from
 -- which the rest of the steps has none. Assumes that 1 to 9 pass.
-use mathlib.Core.Path.{_≡_, refl, ap}
+use mathlib.Core.Path.{_≡_, refl, ap, _∙_}
 use mathlib.Core.Logic.{_↔_}
 use mathlib.Core.List.{List}
 use Prim.Native.Nat.{ℕ, _<_}
@@ -8,7 +8,7 @@ use native.Mathlib.Omega.{arith}
 use lib.ListN.{length}
 use Rattle.answers.specs.Ladder.{least, refusal}
 use Rattle.answers.specs.declared.Refusal.{Refusal}
-use Rattle.answers.specs.declared.Check.the-variants.{Pass}
+use Rattle.answers.specs.declared.Check.the-variants.{Pass, Refuse}
 use Rattle.table.specs.Faults.{tableRungs}
 use Rattle.calculus.specs.Terms.{bound}
 use Rattle.calculus.specs.Tables.{process}
@@ -39,7 +39,8 @@ module _ (s : List ℕ) (sound : least (tableRungs s) ≡ Pass) where
     where
       go : (x : Refusal) → x ≡ refusal 10 0 k → TableRefused s x → AnswerIs signature1 (tableOf s) (untyped k)
       go x q (faulty e) = let y : _≡_ {A = ℕ} 0 1 = cc in absurd (omega arith)
-      go x q (no-typing {k = j} p u n) = let e : j ≡ k = cc in rw e at u
+      go x q (no-typing {k = j} p u n) =
+          let g : Refuse (refusal 10 0 j) ≡ Refuse x = n in let f : refusal 10 0 j ≡ x = cc in let e : j ≡ k = ap (λ (r : Refusal). r .place) (f ∙ q) in rw e at u
 
   -- its place is the highest step from which the rest of the steps has no typing
   pub untypable-from : (k : ℕ) → TableRefused s (refusal 10 0 k) ↔ ((k < length (tableOf s .steps)) × (Typable s k → ⊥) × ((j : ℕ) → k < j → Typable s j))

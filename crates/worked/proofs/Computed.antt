@@ -32,7 +32,7 @@ use Rattle.decoded.specs.Values.{valuesOf}
 use Rattle.decoded_list.specs.Bytes.{listBytes, typesTo}
 use Rattle.decoded_list.specs.Statements.{statementsOf}
 use Rattle.value_table.specs.Values.{valueBytes}
-use Rattle.execution.specs.Messages.{messageBytes}
+use Rattle.run_parts.specs.Messages.{messageBytes}
 use Rattle.machine.specs.Statements.{traceOf, runOf}
 use Rattle.machine.specs.declared.Ran.{Ran}
 use Rattle.type_service.specs.Services.{typesFile}

@@ -29,7 +29,7 @@ use Rattle.decoded_list.specs.Decoded.{Decoded}
 use Rattle.decoded_list.specs.Statements.{statementsOf}
 use Rattle.decoded_list.specs.Bytes.{typesTo}
 use Rattle.value_table.specs.Values.{valueBytes}
-use Rattle.execution.specs.Messages.{messageBytes}
+use Rattle.run_parts.specs.Messages.{messageBytes}
 use Rattle.machine.specs.Statements.{runOf, Told, traceOf}
 use Rattle.machine.specs.declared.Ran.{Ran}
 use Rattle.starting.specs.Fourteen.{Fourteen, starts}

@@ -4,9 +4,10 @@ use Prim.Native.Nat.{ℕ, _*_}
 use lib.ListN.{replicate}
 use Rattle.answers.specs.declared.Check.the-variants.{Pass, Refuse}
 use Rattle.answers.specs.Ladder.{refusal}
-use Rattle.calculus.specs.Terms.{atom, leaf, Value}
+use Rattle.calculus.specs.Signature.{seal}
+use Rattle.calculus.specs.Terms.{atom, leaf, two, Value}
 use Rattle.calculus.specs.Scope.{All}
-use Rattle.calculus.specs.Version1.{signature1}
+use Rattle.calculus.specs.Version1.{encryption, signature1}
 use Rattle.running.specs.Acts.{sent, received, Logged, logged}
 use Rattle.machine.specs.declared.Ran.{Ran}
 use Rattle.worked.specs.Examples.{Example, refusedTable, typed, compiled, judgedAs, ranAs, Holds}
@@ -120,6 +121,14 @@ list12 = list 4 4 (types12 ++ (1 ∷ 0 ∷ 0 ∷ 1 ∷ 0 ∷ 0 ∷ 0 ∷ 0 ∷ 4
 abbrev trace : ℕ → ℕ → ℕ → List ℕ → List ℕ
 trace values supplies startings rest = 0x53 ∷ 0x50 ∷ 0x58 ∷ 0 ∷ 1 ∷ 0 ∷ values ∷ 0 ∷ supplies ∷ startings ∷ rest
 
+-- the values of E1: channel 0, key 0, the plain atom 5, and value 2, the atom, encrypted under value 1, the key
+abbrev pub values1 : List ℕ
+values1 = 0 ∷ 0 ∷ 1 ∷ 0 ∷ 0 ∷ 0 ∷ 0 ∷ 2 ∷ 0 ∷ 0 ∷ 0 ∷ 0 ∷ 0 ∷ 0 ∷ 5 ∷ 2 ∷ 0 ∷ 2 ∷ 0 ∷ 1 ∷ []
+
+-- of E1: c is the channel, k the key, and the ciphertext is supplied
+abbrev pub trace1 : List ℕ
+trace1 = trace 4 1 2 (values1 ++ (0 ∷ 0 ∷ 0 ∷ 1 ∷ 0 ∷ 3 ∷ []))
+
 -- of E8: n is the plain atom 5
 abbrev pub trace8 : List ℕ
 trace8 = trace 1 0 1 (0 ∷ 0 ∷ 0 ∷ 0 ∷ 5 ∷ 0 ∷ 0 ∷ [])
@@ -133,6 +142,22 @@ abbrev pub trace12 : List ℕ
 trace12 = trace 2 1 1 (values12 ++ (0 ∷ 0 ∷ 0 ∷ 1 ∷ []))
 
 -- ── Runs ──
+
+-- E1 finishes after its three statements, the supply used; nothing is made
+abbrev pub ran1 : Ran
+ran1 = record { ending = 0; place = 3; used = 1; logged = 2; count = 4 }
+
+-- its messages: received on value 0, value 3; sent on value 0, value 2
+abbrev pub messages1 : List ℕ
+messages1 = 1 ∷ 0 ∷ 0 ∷ 0 ∷ 3 ∷ 0 ∷ 0 ∷ 0 ∷ 0 ∷ 2 ∷ []
+
+-- as terms: received on channel 0, the ciphertext
+abbrev pub received1 : Logged (Value signature1)
+received1 = logged received (leaf (atom 1 0)) (two (seal encryption) (leaf (atom 0 5)) (leaf (atom 2 0)))
+
+-- sent on it, the atom
+abbrev pub sent1 : Logged (Value signature1)
+sent1 = logged sent (leaf (atom 1 0)) (leaf (atom 0 5))
 
 -- E8 ends with 2 at the comparison, the pair having been made
 abbrev pub ran8 : Ran
@@ -162,8 +187,8 @@ sent12 = logged sent (leaf (atom 1 0)) (leaf (atom 1 0))
 
 abbrev pub examples : List Example
 examples =
-    -- E1: its types, and its list, which the judge accepts
-    typed e1 types1 ∷ compiled e1 list1 ∷ judgedAs e1 list1 Pass ∷
+    -- E1: its types, and its list, which the judge accepts; run, it finishes, and says what the process says
+    typed e1 types1 ∷ compiled e1 list1 ∷ judgedAs e1 list1 Pass ∷ ranAs e1 list1 trace1 ran1 values1 messages1 (received1 ∷ sent1 ∷ []) (received1 ∷ sent1 ∷ []) ∷
     -- E2: accepted
     typed e2 [] ∷ compiled e2 list2 ∷
     -- E3

@@ -6,7 +6,7 @@ use Rattle.calculus.specs.Signature.{pairing, seal}
 use Rattle.calculus.specs.Terms.{left, right}
 use Rattle.calculus.specs.Version1.{encryption}
 use Rattle.decoded.specs.Table.{twoCode}
-use Rattle.execution.specs.Execution.{sideNumber}
+use Rattle.effects.specs.Effects.{sideNumber}
 use Rattle.execution.proofs.execute.Statement.{statement}
 use Rattle.execution.proofs.execute.Tie as tie
 

@@ -4,7 +4,7 @@ use native.Mathlib.Omega.{arith}
 use borrow.Author.Needs.{needs}
 use Rattle.machine.proofs.Starting.{firstRegisters, none-given, one-given, all-given}
 use Prim.Native.Nat.{_≤_, _-_}
-use Rattle.execution.specs.Registers.{Given}
+use Rattle.run_parts.specs.Registers.{Given}
 use Rattle.machine.specs.Running.{zeros}
 use Rattle.machine.proofs.start.Statement.{statement}
 use Rattle.machine.proofs.start.Tie as tie

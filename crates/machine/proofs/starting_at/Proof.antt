@@ -2,7 +2,7 @@
 use native.Mathlib.Omega.{arith}
 use Rattle.entries.proofs.Words.{slice-bytes}
 use Rattle.trace.specs.Layout.{startsAt}
-use Rattle.execution.proofs.KeptLaws.{index-small}
+use Rattle.run_parts.proofs.KeptLaws.{index-small}
 use borrow.Author.Needs.{needs}
 use Rattle.machine.proofs.starting_at.Statement.{statement}
 use Rattle.machine.proofs.starting_at.Tie as tie

@@ -1,0 +1,2 @@
+-- What the promises of `effects` speak of.
+pub mod Effects
