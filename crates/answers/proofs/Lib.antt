@@ -2,5 +2,6 @@
 pub mod Ladder
 pub mod Layers
 pub mod Passes
+pub mod Refused
 pub mod Leads
 pub mod Least

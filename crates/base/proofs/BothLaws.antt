@@ -1,9 +1,13 @@
--- Two tests joined. Assumes nothing.
+-- A test has one answer; two tests joined. Assumes nothing.
 use mathlib.Core.Path.{_≡_, refl}
 use mathlib.Core.Bool.{Bool, true, false}
 use Prim.Native.Nat.{ℕ}
 use native.Mathlib.Omega.{arith}
 use Rattle.base.specs.Pick.{both}
+
+-- a test has one answer
+pub clash : {A : Type 0} {t : Bool} → t ≡ true → t ≡ false → A
+clash p q = let z : _≡_ {A = ℕ} 0 1 = cc in absurd (omega arith)
 
 -- where both hold, the first does, and the second does
 pub both-left : (a b : Bool) → both a b ≡ true → a ≡ true

@@ -31,15 +31,6 @@ pub fn copy(out: &mut [u8], bytes: &[u8]) -> bool
     false
 }
 
-// Writes one byte.
-pub fn put_byte(out: &mut [u8], a: u8) -> bool
-    ensures fits { λ r. ⌜ r ≡ leb 1 (length (now (out .entry))) ⌝ }
-    ensures written { λ _. ⌜ now (out .exit) ≡ overIf (a ∷ []) (now (out .entry)) ⌝ }
-{
-    let bytes = [a];
-    copy(out, &bytes)
-}
-
 // Writes four bytes: a statement.
 pub fn put_four(out: &mut [u8], a: u8, b: u8, c: u8, d: u8) -> bool
     ensures fits { λ r. ⌜ r ≡ leb 4 (length (now (out .entry))) ⌝ }

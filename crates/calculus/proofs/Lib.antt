@@ -1,6 +1,7 @@
 -- Laws of `calculus`, for the proofs of the crates above.
 pub mod Lists
 pub mod TableLaws
+pub mod RepeatLaws
 pub mod Environments
 pub mod Inversion
 pub mod PushLaws

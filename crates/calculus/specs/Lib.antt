@@ -2,6 +2,7 @@
 pub mod Signature
 pub mod Terms
 pub mod Tables
+pub mod Repeats
 pub mod Scope
 pub mod Figure2
 pub mod Typing

@@ -18,7 +18,7 @@ use Rattle.rendering.specs.Rendering.{halves}
 use Rattle.rendering.specs.Translation.{translation}
 use Rattle.decoded.specs.Table.{tableOf}
 use Rattle.decoded.proofs.Passes.{table-passes}
-use Rattle.decoded_list.specs.Bytes.{typeBytes, typesBytes, typesTo}
+use Rattle.decoded_list.specs.Bytes.{typeWithLength, typesBytes, typesTo}
 use Rattle.type_service.specs.Services.{IsWidest, Answered, table-refused, too-short, written}
 use Rattle.compile_service.specs.Files.{listFile}
 use Rattle.compile_service.proofs.FileLaws.{few-statements, need-is}
@@ -29,9 +29,9 @@ use Rattle.compile.specs.Printed.{a-list, a-line, ListPrinted}
 
 -- types of at most 129 bytes, with their length bytes
 types-short : (Γ : Env signature1) (i n : ℕ) → ((x : ℕ) → length (bytes (Γ x)) ≤ 129) → length (typesBytes (listed Γ i n)) ≤ 130 * n
-unfolding listed joined typeBytes
+unfolding listed joined typeWithLength
 types-short Γ i zero h = omega arith
-types-short Γ i (suc n) h = omega (arith, h i, types-short Γ (suc i) n h, length-append (typeBytes (Γ i)) (typesBytes (listed Γ (suc i) n)))
+types-short Γ i (suc n) h = omega (arith, h i, types-short Γ (suc i) n h, length-append (typeWithLength (Γ i)) (typesBytes (listed Γ (suc i) n)))
 
 pub list-short : (s : List ℕ) (Γ : Env signature1) → IsWidest s Γ → length (listFile s Γ) ≤ 13512
 list-short s Γ t =

@@ -20,7 +20,7 @@ use Rattle.decoded_list.specs.Bytes.{headerBytes, typesBytes, statementsBytes, 
 use Rattle.entries.proofs.Tiling.{listed-length}
 use Rattle.translate.specs.Stepwise.{wroteIf}
 use Rattle.statement_counts.proofs.Ranged.{all-fits}
-use Rattle.translate.proofs.Writing.{bytes-length}
+use Rattle.decoded_list.proofs.FileLayout.{bytes-length}
 use Rattle.type_service.specs.Services.{IsWidest}
 use Rattle.compile_service.specs.Files.{listFile}
 

@@ -9,12 +9,12 @@ use native.Mathlib.Omega.{arith}
 use lib.Dec.{eqb}
 use borrow.Author.Tests.{eqb-true, eqb-false, eq-eqb, ne-eqb, not-true}
 use Rattle.base.specs.Pick.{pick, both, either}
-use Rattle.base.proofs.BothLaws.{both-left, both-right, both-true}
+use Rattle.base.proofs.BothLaws.{clash, both-left, both-right, both-true}
 use Rattle.codes.specs.Rows.{nameRole, variableRole}
 use Rattle.table_layout.specs.Layout.{stepField, stepRole}
 use Rattle.table_binding.specs.Binding.{isBinder, bindsAt, binds, binder, again, twice, bindsNew}
 use Rattle.decoded.specs.Meaning.{Binder, Binds, BindsNew}
-use Rattle.decoded.proofs.Tests.{clash, either-cases, either-left, either-right, either-at, at-either}
+use Rattle.decoded.proofs.Tests.{either-cases, either-left, either-right, either-at, at-either}
 
 -- field j of step k binds a symbol
 pub is-binder-means : (s : List ℕ) (k j : ℕ) → (isBinder s k j ≡ true) ↔ Binder s k j

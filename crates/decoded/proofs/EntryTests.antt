@@ -1,6 +1,6 @@
 -- What numbers 5 and 6 test, by document 01's tables. Assumes that the version is 1 (number 2), where it says so.
 use mathlib.Core.Path.{_≡_, refl}
-use mathlib.Core.Bool.{Bool, true, false, not}
+use mathlib.Core.Bool.{true}
 use mathlib.Core.Logic.{_↔_, _⊎_, inl, inr}
 use mathlib.Core.List.{List}
 use Prim.Native.Nat.{ℕ, zero, suc, _+_, _<_}
@@ -10,17 +10,15 @@ use lib.ListN.{getD}
 use borrow.Author.Tests.{ltb-true, lt-ltb, eqb-true, eq-eqb}
 use Rattle.base.specs.Bytes.{byte}
 use Rattle.base.specs.Pick.{pick}
-use Rattle.base.proofs.BothLaws.{both-left, both-right, both-true}
-use Rattle.base.proofs.Searched.{each-all-right}
+use Rattle.base.proofs.BothLaws.{clash, both-left, both-right, both-true}
 use Rattle.codes.specs.Rows.{rows, cell, fields, known, atomKinds, limitsOf, nameRole, variableRole}
-use Rattle.entries.specs.Fields.{code, field, role, fieldOk, fieldsOk, entryOk, sameEntry}
+use Rattle.entries.specs.Fields.{role}
 use Rattle.entries.specs.Faults.{nodeOk, alone}
-use Rattle.entries.proofs.Unlike.{parts-same, same-parts, alone-apart}
+use Rattle.entries.proofs.InOrder.{entry-code, entry-field, entry-right, zero-below, below-zero}
+use Rattle.entries.proofs.Unlike.{parts-same, same-parts, alone-apart, apart-alone}
 use Rattle.opening.specs.Opening.{version}
 use Rattle.table_layout.specs.Layout.{symbols, terms, termsAt, stepsAt, sort, termField, stepField, stepRole, symbolOk, sortOk, stepInRange, stepOk}
 use Rattle.decoded.specs.Entries.{SymbolRight, termCode, stepCode, TermRight, symbol, pair, encrypted, StepRight, output, input, restriction, matching, splitting, decryption, SameTerm}
-use Rattle.decoded.proofs.Tests.{clash}
-use Rattle.decoded.proofs.Ranges.{entry-code, entry-field}
 use Rattle.decoded.proofs.Shapes.{step-role}
 
 -- ── Symbols ──
@@ -37,24 +35,6 @@ symbol-ok-means s i = (λ e. below-two (sort s i) (ltb-true _ _ e), λ r. lt-ltb
     small : SymbolRight s i → sort s i < 2
     small (inl e) = omega arith
     small (inr e) = omega arith
-
--- ── Entries of any kind ──
-
--- an entry whose code is op is in order where op is known and each field lies below the limit of its role
-entry-right : (s : List ℕ) (kind v base i : ℕ) (limits : List ℕ) (op : ℕ) → code s kind base i ≡ op → known kind v op ≡ true
-    → ((j : ℕ) → j < fields kind → field s kind base i j < getD limits (cell kind op (j + 1)) 0) → entryOk s kind v base i limits ≡ true
-unfolding entryOk fieldsOk fieldOk role
-entry-right s kind v base i limits op c k f =
-    both-true (known kind v (code s kind base i)) _ (rw c k) (each-all-right (fieldOk s kind base i limits) (fields kind) λ j h. one j (f j h))
-  where
-    one : (j : ℕ) → field s kind base i j < getD limits (cell kind op (j + 1)) 0 → fieldOk s kind base i limits j ≡ true
-    one j l = lt-ltb (field s kind base i j) (getD limits (cell kind (code s kind base i) (j + 1)) 0) (rw c l)
-
-zero-below : {v : ℕ} → v ≡ 0 → v < 1
-zero-below e = omega arith
-
-below-zero : {v : ℕ} → v < 1 → v ≡ 0
-below-zero h = omega arith
 
 -- ── Terms ──
 
@@ -98,12 +78,11 @@ module _ (s : List ℕ) (i : ℕ) where
   pub alone-means : (alone s 0 (termsAt s) i ≡ true) ↔ ((j : ℕ) → j < i → ¬ SameTerm s i j)
   alone-means = (
     λ e j h t. clash (parts-same s 0 (termsAt s) i j (t .same-code) (t .same-left) (t .same-right)) (alone-apart s 0 (termsAt s) i j e h),
-    λ f. unfold alone in (each-all-right (λ j. not (sameEntry s 0 (termsAt s) i j)) i λ j h. other j (f j h) (sameEntry s 0 (termsAt s) i j) refl),
+    λ f. apart-alone s 0 (termsAt s) i λ j h e. f j h (same-term (same-parts s 0 (termsAt s) i j e)),
   )
     where
-      other : (j : ℕ) → ¬ SameTerm s i j → (b : Bool) → sameEntry s 0 (termsAt s) i j ≡ b → not b ≡ true
-      other j f false e = refl
-      other j f true e = let (c, l, r) = same-parts s 0 (termsAt s) i j e in absurd (f (record { same-code = c; same-left = l; same-right = r }))
+      same-term : {j : ℕ} → (termCode s i ≡ termCode s j) × (termField s i 0 ≡ termField s j 0) × (termField s i 1 ≡ termField s j 1) → SameTerm s i j
+      same-term (c, l, r) = record { same-code = c; same-left = l; same-right = r }
 
 -- ── Steps ──
 

@@ -20,6 +20,7 @@ use Rattle.calculus.specs.Signature.{pairing, seal}
 use Rattle.calculus.specs.Terms.{build2, send, receive, fresh, compare, split, decrypt}
 use Rattle.calculus.specs.Tables.{is-name, is-variable, leafEntry, kindEntry, Table}
 use Rattle.calculus.specs.Version1.{encryption, signature1}
+use Rattle.calculus.specs.ExampleTables.{E1}
 use Rattle.entries.specs.Tiling.{listed}
 use Rattle.decoded.specs.Table.{sortOf, entryOf, actOf, sortAt, termAt, stepAt, tableOf}
 
@@ -30,14 +31,6 @@ e1Bytes =
     0 ∷ 0 ∷ 1 ∷ 1 ∷
     0 ∷ 0 ∷ 0 ∷ 0 ∷ 1 ∷ 0 ∷ 0 ∷ 2 ∷ 0 ∷ 0 ∷ 3 ∷ 0 ∷
     1 ∷ 0 ∷ 0 ∷ 2 ∷ 0 ∷ 5 ∷ 2 ∷ 1 ∷ 3 ∷ 0 ∷ 0 ∷ 0 ∷ 3 ∷ 0 ∷ 0 ∷ []
-
-abbrev pub e1Table : Table signature1
-e1Table =
-    record {
-      sorts = is-name ∷ is-name ∷ is-variable ∷ is-variable ∷ [];
-      entries = leafEntry 0 ∷ leafEntry 1 ∷ leafEntry 2 ∷ leafEntry 3 ∷ [];
-      steps = receive 0 2 ∷ decrypt encryption 2 1 3 ∷ send 0 3 ∷ [];
-    }
 
 -- restriction of n, input of x on c, x split as a and b, b decrypted with n as y, a matched with (y, n), and that encrypted under n
 -- sent on c; symbols c n x a b y
@@ -66,7 +59,7 @@ pub every-code-passes : least (tableRungs everyCodeBytes) ≡ Pass
 unfolding byte word walk first some mark header rows cell fields fieldBytes width known atomKinds answered least number placeOf code field role fieldOk fieldsOk entryOk sameEntry nodeOk alone marked countsOk lengthOk symbolOk sortOk stepInRange stepOk partAt hasPart useAt usesTerm named isBinder binds binder again twice bindsNew fieldLatest latest fieldInScope inScope
 every-code-passes = refl
 
-pub e1-decoded : tableOf e1Bytes ≡ e1Table
+pub e1-decoded : tableOf e1Bytes ≡ E1
 unfolding byte fieldBytes width number placeOf code field listed sortOf entryOf actOf sortAt termAt stepAt
 e1-decoded = refl
 

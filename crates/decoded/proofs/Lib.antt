@@ -14,7 +14,6 @@ pub mod EntryTests
 pub mod Holding
 pub mod Steps
 pub mod Sorts
-pub mod Tiling
 pub mod Written
 -- what 6 to 9 leave
 pub mod Checked
@@ -23,7 +22,8 @@ pub mod Reach
 pub mod Passes
 -- what the translation and the judge need of all that
 pub mod Tabled
--- the values of a trace, and examples
+-- the values of a trace; number 6 of both files; examples
 pub mod ValueLaws
 pub mod TraceValues
+pub mod Repeated
 pub mod Examples

@@ -8,7 +8,7 @@ use native.Mathlib.Omega.{arith}
 use lib.Dec.{leb}
 use borrow.Author.Tests.{leb-true, le-leb, eqb-true, eq-eqb}
 use Rattle.base.specs.Bytes.{byte, word}
-use Rattle.base.proofs.BothLaws.{both-true, both-parts}
+use Rattle.base.proofs.BothLaws.{clash, both-true, both-parts}
 use Rattle.codes.specs.Marks.{mark, header}
 use Rattle.answers.specs.Ladder.{least}
 use Rattle.answers.specs.declared.Check.the-variants.{Pass}
@@ -22,7 +22,6 @@ use Rattle.table_naming.specs.Naming.{idleRung}
 use Rattle.table_binding.specs.Binding.{inScope, bindRung, scopeRung}
 use Rattle.table.specs.Faults.{tableRungs}
 use Rattle.decoded.specs.Right.{FrameRight, TableRight}
-use Rattle.decoded.proofs.Tests.{clash}
 use Rattle.decoded.proofs.Naming.{named-means}
 use Rattle.decoded.proofs.Binding.{binds-new-means}
 use Rattle.decoded.proofs.Scoping.{in-scope-means}

@@ -5,34 +5,18 @@ use mathlib.Core.Logic.{inl, inr}
 use mathlib.Core.List.{List}
 use Prim.Native.Nat.{ℕ, _<_}
 use native.Mathlib.Omega.{arith}
-use lib.Dec.{ltb}
 use lib.ListN.{getD}
 use borrow.Author.Tests.{ltb-true, eqb-true}
 use Rattle.base.specs.Bytes.{byte}
 use Rattle.base.proofs.BothLaws.{both-left, both-right}
-use Rattle.base.proofs.Searched.{all-right-each}
-use Rattle.codes.specs.Rows.{rows, fields, known, atomKinds, limitsOf, noRole, nameRole}
-use Rattle.entries.specs.Fields.{code, field, role, fieldOk, fieldsOk, entryOk}
+use Rattle.codes.specs.Rows.{rows, fields, atomKinds, limitsOf, noRole, nameRole}
+use Rattle.entries.specs.Fields.{code}
 use Rattle.entries.specs.Faults.{nodeOk}
+use Rattle.entries.proofs.InOrder.{entry-code, entry-field}
 use Rattle.opening.specs.Opening.{version}
 use Rattle.table_layout.specs.Layout.{symbols, terms, steps, termsAt, stepsAt, sort, termField, termRole, stepField, stepRole, sortOk, stepInRange, stepOk, symbolOk}
 use Rattle.decoded.specs.Meaning.{Binder, Binds, PartsLower, TermsThere}
 use Rattle.decoded.proofs.Passed.{Entered}
-
--- an entry in order: its code is known, and each field lies below the limit of its role
-known-code : (kind version op : ℕ) → known kind version op ≡ true → op < rows kind
-unfolding known
-known-code kind version op e = ltb-true _ _ (both-left (ltb op (rows kind)) _ e)
-
-pub entry-code : (s : List ℕ) (kind version base i : ℕ) (limits : List ℕ) → entryOk s kind version base i limits ≡ true → code s kind base i < rows kind
-unfolding entryOk
-entry-code s kind version base i limits e = known-code kind version _ (both-left (known kind version (code s kind base i)) _ e)
-
-pub entry-field : (s : List ℕ) (kind version base i : ℕ) (limits : List ℕ) → entryOk s kind version base i limits ≡ true
-    → (j : ℕ) → j < fields kind → field s kind base i j < getD limits (role s kind base i j) 0
-unfolding entryOk fieldsOk fieldOk
-entry-field s kind version base i limits e j h =
-    ltb-true _ _ (all-right-each (fieldOk s kind base i limits) (fields kind) (both-right (known kind version (code s kind base i)) _ e) j h)
 
 module _ (s : List ℕ) (n : Entered s) where
   -- ── Terms ──

@@ -12,12 +12,13 @@ use lib.ListN.{getD, List·getD-append}
 use lib.Seq.{getD-at}
 use borrow.Author.Tests.{eqb-true, leb-true, leb-false, lt-leb}
 use Rattle.base.specs.Pick.{pick, both}
+use Rattle.base.proofs.BothLaws.{clash}
 use Rattle.codes.specs.Rows.{partRole, symbolRole, termRole as stepTermRole}
 use Rattle.table_layout.specs.Layout.{terms, steps, termField, termRole, stepField, stepRole}
 use Rattle.table_binding.specs.Binding.{binder, larger, fieldLatest, latest, fieldInScope, inScope}
 use Rattle.table_binding.proofs.PassLaws.{latest-size}
 use Rattle.decoded.specs.Meaning.{Uses, Holds, itself, inside, PartsLower, TermsThere, OutOfScope}
-use Rattle.decoded.proofs.Tests.{clash, fails-at, at-fails}
+use Rattle.decoded.proofs.Tests.{fails-at, at-fails}
 use Rattle.decoded.proofs.Binding.{binder-means}
 
 -- the larger of two lies after k exactly if one of them does

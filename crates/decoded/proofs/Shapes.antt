@@ -78,7 +78,7 @@ three-same h = (cc, cc, cc)
 pub five-same : {a b c d e f g h i j : ℕ} → _≡_ {A = List ℕ} (a ∷ b ∷ c ∷ d ∷ e ∷ []) (f ∷ g ∷ h ∷ i ∷ j ∷ []) → (f ≡ a) × (g ≡ b) × (h ≡ c) × (i ≡ d) × (j ≡ e)
 five-same q = (cc, cc, cc, cc, cc)
 
-term-role : (s : List ℕ) (i op j : ℕ) → code s 0 (termsAt s) i ≡ op → termRole s i j ≡ cell 0 op (j + 1)
+pub term-role : (s : List ℕ) (i op j : ℕ) → code s 0 (termsAt s) i ≡ op → termRole s i j ≡ cell 0 op (j + 1)
 unfolding role
 term-role s i op j e = rw e
 

@@ -7,7 +7,7 @@ use mathlib.Core.List.{List, [], _∷_, _++_}
 use Prim.Native.Nat.{ℕ, zero, suc, _+_, _≤_, _<_}
 use native.Mathlib.Nat.{eq-or-lt-of-le}
 use native.Mathlib.Omega.{arith}
-use lib.ListN.{length, getD}
+use lib.ListN.{length}
 use Rattle.base.specs.Bytes.{byte}
 use Rattle.codes.specs.Rows.{cell, noRole, termRole as stepTermRole}
 use Rattle.table_layout.specs.Layout.{symbols, steps, stepField, stepRole}
@@ -15,11 +15,11 @@ use Rattle.calculus.specs.Terms.{Term, Act, send, receive, fresh, compare, spli
 use Rattle.calculus.specs.Tables.{Sort, is-variable, sortOf, isIn, missing}
 use Rattle.calculus.specs.Scope.{In, here, there, All, all-nil, all-cons}
 use Rattle.calculus.specs.Version1.{signature1}
-use Rattle.calculus.proofs.Lists.{all-in, in-cases, in-append-left, in-append-right, in-append, in-true, in-is-in}
+use Rattle.calculus.proofs.Lists.{all-in, in-cases, in-append-left, in-append-right, in-append, in-false, not-in-in}
+use Rattle.rendering.proofs.FreeLaws.{free-or-bound}
 use Rattle.entries.specs.Tiling.{listed}
 use Rattle.decoded.specs.Table.{sortAt, stepAt, tableOf, stepBytes, freeOf}
 use Rattle.decoded.specs.Meaning.{Uses, Binder, Binds}
-use Rattle.decoded.proofs.Tests.{clash}
 use Rattle.entries.proofs.Tiling.{listed-length}
 use Rattle.decoded.proofs.Listed.{listed-all-at}
 use Rattle.decoded.proofs.Passed.{Entered}
@@ -34,12 +34,9 @@ sorts-length s = listed-length (sortAt s) 0 (symbols s)
 pub sort-at : (s : List ℕ) (x : ℕ) → x < symbols s → sortOf (tableOf s .sorts) x ≡ sortAt s x
 sort-at s x h = listed-all-at (sortAt s) is-variable (symbols s) x h
 
--- how many steps there are, and each of them
+-- how many steps there are
 pub steps-length : (s : List ℕ) → length (tableOf s .steps) ≡ steps s
 steps-length s = listed-length (stepAt s) 0 (steps s)
-
-pub step-at : (s : List ℕ) (d : Act signature1 ℕ) (k : ℕ) → k < steps s → getD (tableOf s .steps) k d ≡ stepAt s k
-step-at s d k h = listed-all-at (stepAt s) d (steps s) k h
 
 -- ── Steps over terms instead of indexes ──
 
@@ -54,7 +51,7 @@ operands-mapped f g (compare a b) (all-cons u (all-cons v w)) = all-cons (g a u)
 operands-mapped f g (split a x y) (all-cons u w) = all-cons (g a u) all-nil
 operands-mapped f g (decrypt c a b x) (all-cons u (all-cons v w)) = all-cons (g a u) (all-cons (g b v) all-nil)
 
--- ── Symbols in a list, and those that are not ──
+-- ── Symbols that are missing from a list ──
 
 missing-at : (x i : ℕ) (so : List Sort) (l : List ℕ) → In x (missing i so l) → (i ≤ x) × (x < i + length so) × (isIn x l ≡ false)
 unfolding missing
@@ -73,17 +70,6 @@ missing-at x i (o ∷ so) l a = go (isIn i l) refl a (λ b. missing-at x (suc i)
         → (In x (missing (suc i) so l) → (suc i ≤ x) × (x < suc i + length so) × (isIn x l ≡ false)) → (i ≤ x) × (x < i + suc (length so)) × (isIn x l ≡ false)
     go true e a r = more (r a)
     go false e a r = first e (in-cases a) r
-
-at-missing : (x i : ℕ) (so : List Sort) (l : List ℕ) → i ≤ x → x < i + length so → isIn x l ≡ false → In x (missing i so l)
-unfolding missing
-at-missing x i [] l h u e = absurd (omega arith)
-at-missing x i (o ∷ so) l h u e = go (isIn i l) refl (eq-or-lt-of-le h) (λ v. at-missing x (suc i) so l v (omega arith) e)
-  where
-    go : (b : Bool) → isIn i l ≡ b → (i ≡ x) ⊎ (i < x) → (suc i ≤ x → In x (missing (suc i) so l)) → In x (cond b (missing (suc i) so l) (i ∷ missing (suc i) so l))
-    go true q (inl z) r = clash (rw z at q) e
-    go true q (inr v) r = r v
-    go false q (inl z) r = rw z here
-    go false q (inr v) r = there (r v)
 
 -- ── Nothing is left out ──
 
@@ -184,18 +170,13 @@ module _ (s : List ℕ) (n : Entered s) where
 
   -- the free symbols are those that no step binds
   pub free-means : (x : ℕ) → In x (freeOf s) ↔ ((x < symbols s) × ((k : ℕ) → k < steps s → ¬ Binds s k x))
-  free-means x = (λ a. to (missing-at x 0 (tableOf s .sorts) (bound signature1 (tableOf s .steps)) a), λ (h, f). from h f)
+  free-means x = (λ a. to (missing-at x 0 (tableOf s .sorts) (bound signature1 (tableOf s .steps)) a), λ (h, f). from h f (free-or-bound signature1 (tableOf s) x (rw (sorts-length s) h)))
     where
       to : (0 ≤ x) × (x < 0 + length (tableOf s .sorts)) × (isIn x (bound signature1 (tableOf s .steps)) ≡ false) → (x < symbols s) × ((k : ℕ) → k < steps s → ¬ Binds s k x)
       to (l, u, e) =
           let z = sorts-length s in
-          (omega arith, λ k h b. clash (in-is-in x (bound signature1 (tableOf s .steps)) (bound-means x .1 (k, h, b))) e)
+          (omega arith, λ k h b. not-in-in (in-false x (bound signature1 (tableOf s .steps)) e) (bound-means x .1 (k, h, b)))
 
-      from : x < symbols s → ((k : ℕ) → k < steps s → ¬ Binds s k x) → In x (freeOf s)
-      from h f =
-          let z = sorts-length s in
-          at-missing x 0 (tableOf s .sorts) (bound signature1 (tableOf s .steps)) (omega arith) (omega arith) (not-is-in (isIn x (bound signature1 (tableOf s .steps))) refl)
-        where
-          not-is-in : (b : Bool) → isIn x (bound signature1 (tableOf s .steps)) ≡ b → isIn x (bound signature1 (tableOf s .steps)) ≡ false
-          not-is-in false e = e
-          not-is-in true e = let (k, h, b) = bound-means x .0 (in-true x (bound signature1 (tableOf s .steps)) e) in absurd (f k h b)
+      from : x < symbols s → ((k : ℕ) → k < steps s → ¬ Binds s k x) → In x (freeOf s) ⊎ In x (bound signature1 (tableOf s .steps)) → In x (freeOf s)
+      from h f (inl a) = a
+      from h f (inr b) = let (k, l, c) = bound-means x .0 b in absurd (f k l c)

@@ -11,7 +11,7 @@ use Rattle.base.proofs.BothLaws.{both-left, both-right}
 use Rattle.answers.specs.Ladder.{least}
 use Rattle.answers.specs.declared.Check.the-variants.{Pass}
 use Rattle.codes.specs.Rows.{cell}
-use Rattle.entries.specs.Fields.{code, role}
+use Rattle.entries.specs.Fields.{code}
 use Rattle.table_layout.specs.Layout.{symbols, terms, steps, termsAt, stepsAt, termField, termRole, stepField, stepRole, countsOk}
 use Rattle.table.specs.Faults.{tableRungs}
 use Rattle.calculus.specs.Terms.{build2}
@@ -20,13 +20,9 @@ use Rattle.calculus.specs.Version1.{signature1}
 use Rattle.decoded.specs.Table.{entryOf, actOf, termAt, stepAt}
 use Rattle.decoded.proofs.Passed.{table-passed}
 use Rattle.decoded.proofs.Ranges.{term-code, term-field, step-code, step-field}
-use Rattle.decoded.proofs.Shapes.{step-role}
+use Rattle.decoded.proofs.Shapes.{term-role, step-role}
 use Rattle.decoded.proofs.Holding.{entry-at}
 use Rattle.decoded.specs.Indexes.{entriesOf, kindOf}
-
-pub term-role : (s : List ℕ) (i op j : ℕ) → code s 0 (termsAt s) i ≡ op → termRole s i j ≡ cell 0 op (j + 1)
-unfolding role
-term-role s i op j e = rw e
 
 pub term-as : (s : List ℕ) (i op : ℕ) → code s 0 (termsAt s) i ≡ op → termAt s i ≡ entryOf op (termField s i 0) (termField s i 1)
 unfolding termAt

@@ -10,6 +10,7 @@ use Rattle.base.specs.Bytes.{byte, word}
 use Rattle.codes.specs.Rows.{rows, cell, fields, partRole}
 use Rattle.entries.specs.Fields.{code, field, role}
 use Rattle.entries.specs.Faults.{nodeOk, alone}
+use Rattle.entries.proofs.InOrder.{entry-code, entry-field}
 use Rattle.entries.proofs.Unlike.{entries-unlike}
 use Rattle.calculus.specs.Signature.{Two, pairing, seal}
 use Rattle.calculus.specs.Terms.{Atom, atom, build1, build2}
@@ -20,7 +21,6 @@ use Rattle.decoded.specs.Table.{twoCode}
 use Rattle.decoded.specs.Values.{valueOf, valueAt, valuesOf, valueNumbers}
 use Rattle.entries.proofs.Tiling.{listed-length}
 use Rattle.decoded.proofs.Listed.{listed-all-at}
-use Rattle.decoded.proofs.Ranges.{entry-code, entry-field}
 use Rattle.decoded.proofs.Shapes.{three-same}
 
 -- the leaf that stands past the end

@@ -1,6 +1,6 @@
 -- A table that was read and is written again is the same file, so no second file stands for the same table. Assumes that 1 to 5 pass.
 use mathlib.Core.Path.{_≡_, refl, sym, ap, _∙_}
-use mathlib.Core.List.{List, [], _∷_, _++_}
+use mathlib.Core.List.{List, [], _∷_}
 use Prim.Native.Nat.{ℕ, zero, suc, _+_, _*_, _<_}
 use native.Mathlib.Omega.{arith}
 use lib.ListN.{length}
@@ -12,14 +12,12 @@ use Rattle.answers.specs.declared.Check.the-variants.{Pass}
 use Rattle.entries.specs.Fields.{placeOf, code}
 use Rattle.opening.proofs.Frames.{marked-means, version-bytes}
 use Rattle.table_layout.specs.Layout.{symbols, terms, steps, termsAt, stepsAt, sort, lengthOk}
-use Rattle.table_layout.specs.Faults.{frameRungs, entryRungs}
 use Rattle.table_layout.proofs.FieldLaws.{term-field-byte, step-field-byte}
 use Rattle.table.specs.Faults.{tableRungs}
 use Rattle.entries.specs.Tiling.{listed, joined, stretch}
 use Rattle.decoded.specs.Table.{sortOf, sortAt, termAt, stepAt, tableOf, sortBytes, entryBytes, stepBytes, headerBytes, tableBytes}
-use Rattle.entries.proofs.Tiling.{listed-length, stretch-whole}
-use Rattle.decoded.proofs.Tiling.{stretches, joined-all}
-use Rattle.decoded.proofs.Passed.{Entered, entered, table-passed}
+use Rattle.entries.proofs.Tiling.{listed-length, stretch-whole, stretches, joined-all}
+use Rattle.decoded.proofs.Passed.{Entered, table-passed}
 use Rattle.decoded.proofs.Ranges.{sort-small}
 use Rattle.decoded.proofs.Shapes.{threeBytes, fiveBytes, term-written, step-written}
 
@@ -104,11 +102,7 @@ module _ (s : List ℕ) (n : Entered s) where
       )
       (stretch-whole s)
 
--- a table that passes 1 to 5, decoded and encoded, is the same file
-pub entries-written : (s : List ℕ) → least (frameRungs s ++ entryRungs s) ≡ Pass → tableBytes (tableOf s) ≡ s
-entries-written s e = written-again s (entered s e)
-
--- so is one that passes 1 to 9
+-- a table that passes 1 to 9, decoded and encoded, is the same file
 pub table-written : (s : List ℕ) → least (tableRungs s) ≡ Pass → tableBytes (tableOf s) ≡ s
 table-written s e = written-again s (table-passed s e .entered)
 

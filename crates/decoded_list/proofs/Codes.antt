@@ -5,14 +5,11 @@ use mathlib.Core.Bool.{true}
 use mathlib.Core.List.{List, [], _∷_}
 use Prim.Native.Nat.{ℕ, zero, suc, _+_, _<_}
 use native.Mathlib.Omega.{arith}
-use lib.Dec.{ltb}
 use lib.ListN.{getD}
-use borrow.Author.Tests.{ltb-true, lt-ltb}
 use Rattle.base.specs.Bytes.{byte}
-use Rattle.base.proofs.BothLaws.{both-left, both-right, both-true}
-use Rattle.base.proofs.Searched.{all-right-each, each-all-right}
 use Rattle.codes.specs.Rows.{cell, rows, fields, known, limitsOf}
-use Rattle.entries.specs.Fields.{code, field, role, fieldOk, fieldsOk, entryOk}
+use Rattle.entries.specs.Fields.{code, field, role, entryOk}
+use Rattle.entries.proofs.InOrder.{entry-code, entry-field, entry-right}
 use Rattle.calculus.specs.Signature.{pairing, seal}
 use Rattle.calculus.specs.Terms.{build1, build2, send, receive, fresh, compare, split, decrypt, operands, binders, left, right, Statement, act, half, build}
 use Rattle.calculus.specs.Scope.{All, all-cons}
@@ -49,11 +46,8 @@ pub record InOrder (s : List ℕ) (base i S n : ℕ) : Type 0 where
   pub below : (j : ℕ) → j < 3 → Below S n (code s 2 base i) (j + 1) (field s 2 base i j)
 
 pub entry-in-order : (s : List ℕ) (v base i S n : ℕ) → entryOk s 2 v base i (limitsOf 0 S 0 0 n) ≡ true → InOrder s base i S n
-unfolding entryOk fieldsOk fieldOk role known rows fields byte
-entry-in-order s v base i S n e =
-    let k = both-left (known 2 v (code s 2 base i)) _ e in
-    let f = both-right (known 2 v (code s 2 base i)) _ e in
-    record { op-known = ltb-true _ 9 (both-left (ltb (code s 2 base i) 9) _ k); below = λ j h. ltb-true _ _ (all-right-each (fieldOk s 2 base i (limitsOf 0 S 0 0 n)) 3 f j h) }
+unfolding role rows fields byte
+entry-in-order s v base i S n e = record { op-known = entry-code s 2 v base i (limitsOf 0 S 0 0 n) e; below = entry-field s 2 v base i (limitsOf 0 S 0 0 n) e }
 
 -- so it is written again
 pub entry-written : (s : List ℕ) (base i S n : ℕ) → InOrder s base i S n
@@ -127,18 +121,14 @@ fields-back S n (build (build2 (seal encryption) p q)) f =
 -- so a statement in form is in order where it stands
 pub statement-in-order : (s : List ℕ) (base i S n : ℕ) (st : Statement signature1) (r : List ℕ) → StatementFits S n st → StatementThere s base i st r
     → entryOk s 2 1 base i (limitsOf 0 S 0 0 n) ≡ true
-unfolding entryOk fieldsOk fieldOk role fields byte
-statement-in-order s base i S n st r f t =
-    both-true (known 2 1 (code s 2 base i)) _ (rw (t .op) (read-back st (f .not-whole) .op-there)) (each-all-right (fieldOk s 2 base i (limitsOf 0 S 0 0 n)) 3 one)
+unfolding fields byte
+statement-in-order s base i S n st r f t = entry-right s 2 1 base i (limitsOf 0 S 0 0 n) (at st 0) (t .op) (read-back st (f .not-whole) .op-there) below
   where
     k : Ranged S n st
     k = fields-back S n st f
 
-    below : (j : ℕ) → j < 3 → Below S n (code s 2 base i) (j + 1) (field s 2 base i j)
-    below zero h = rw (t .operand 0 h, t .op) (k .first)
-    below (suc zero) h = rw (t .operand 1 h, t .op) (k .second)
-    below (suc (suc zero)) h = rw (t .operand 2 h, t .op) (k .third)
+    below : (j : ℕ) → j < 3 → Below S n (at st 0) (j + 1) (field s 2 base i j)
+    below zero h = rw (t .operand 0 h) (k .first)
+    below (suc zero) h = rw (t .operand 1 h) (k .second)
+    below (suc (suc zero)) h = rw (t .operand 2 h) (k .third)
     below (suc (suc (suc j))) h = absurd (omega arith)
-
-    one : (j : ℕ) → j < 3 → ltb (field s 2 base i j) (getD (limitsOf 0 S 0 0 n) (cell 2 (code s 2 base i) (j + 1)) 0) ≡ true
-    one j h = lt-ltb (field s 2 base i j) (getD (limitsOf 0 S 0 0 n) (cell 2 (code s 2 base i) (j + 1)) 0) (below j h)

@@ -23,7 +23,7 @@ use Rattle.rendering.specs.Examples.{list1}
 use Rattle.rendering.specs.Lists.{StatementList}
 use Rattle.list.specs.Layout.{typeAt, countsOk, lengthOk, wants, typeOkAt, typeOk, gives, given, statementOkAt, statementOk}
 use Rattle.list.specs.Faults.{listRungs}
-use Rattle.decoded_list.specs.Bytes.{twoOp, halfOp, statementBytes, typeBytes, headerBytes, listBytes}
+use Rattle.decoded_list.specs.Bytes.{twoOp, halfOp, statementBytes, typeWithLength, headerBytes, listBytes}
 use Rattle.decoded_list.specs.Statements.{statementOf, statementAt, statementsOf}
 
 -- E1's list: header, types of c, k, x, y, then receive, decrypt, send
@@ -55,5 +55,5 @@ abbrev Works : List ℕ → StatementList signature1 → ℕ → Type 0
 Works s l free = (listBytes l ≡ s) × (least (listRungs s free) ≡ Pass) × (statementsOf s ≡ l .statements)
 
 pub examples-work : Works e1Bytes e1List 2 × Works everyCodeBytes everyCodeList 2
-unfolding byte word walk first mark header rows cell fields fieldBytes width known typeParts typeKnown answered least number placeOf code field role fieldOk fieldsOk entryOk listed joined marked encoded code1 typeAt countsOk lengthOk wants typeOkAt typeOk gives given statementOkAt statementOk twoOp halfOp statementBytes typeBytes headerBytes listBytes statementOf statementAt
+unfolding byte word walk first mark header rows cell fields fieldBytes width known typeParts typeKnown answered least number placeOf code field role fieldOk fieldsOk entryOk listed joined marked encoded code1 typeAt countsOk lengthOk wants typeOkAt typeOk gives given statementOkAt statementOk twoOp halfOp statementBytes typeWithLength headerBytes listBytes statementOf statementAt
 examples-work = ((refl, refl, refl), (refl, refl, refl))

@@ -21,7 +21,7 @@ use Rattle.calculus.specs.Version1.{encryption, signature1}
 use Rattle.calculus.proofs.Lists.{all-append, all-at, all-map}
 use Rattle.rendering.specs.Lists.{StatementList}
 use Rattle.rendering.specs.Translation.{parts, registers}
-use Rattle.decoded_list.specs.Bytes.{twoOp, halfOp, statementBytes, statementsBytes, typeBytes, typesBytes, headerBytes, listBytes}
+use Rattle.decoded_list.specs.Bytes.{twoOp, halfOp, statementBytes, statementsBytes, typeWithLength, typesBytes, headerBytes, listBytes}
 use Rattle.decoded_list.specs.Form.{symbolsNamed, registersGiven, StatementsFit, fit-one, InForm}
 
 -- every element is a byte
@@ -56,7 +56,7 @@ type-small (Cipher u A) = all-cons (code-small (n-cipher u)) (type-small A)
 type-small (Pair A B) = all-cons (code-small n-pair) (all-append (type-small A) (type-small B))
 
 types-small : (As : List T) → All (λ A. length (bytes A) ≤ 255) As → Small (typesBytes As)
-unfolding joined typeBytes
+unfolding joined typeWithLength
 types-small [] h = all-nil
 types-small (A ∷ As) (all-cons p h) = all-append (all-cons (omega arith) (type-small A)) (types-small As h)
 

@@ -15,7 +15,7 @@ use Rattle.calculus.specs.Terms.{build1, build2, send, receive, fresh, compare,
 use Rattle.calculus.specs.Version1.{signature1}
 use Rattle.rendering.specs.Lists.{StatementList}
 use Rattle.list.specs.Layout.{symbols, statements, bodyAt, pastType, typeAt, statementsAt}
-use Rattle.decoded_list.specs.Bytes.{statementBytes, statementsBytes, typeBytes, typesBytes, headerBytes, listBytes}
+use Rattle.decoded_list.specs.Bytes.{statementBytes, statementsBytes, typeWithLength, typesBytes, headerBytes, listBytes}
 
 -- ── Types, wherever they stand ──
 
@@ -31,8 +31,8 @@ pub record TypeThere (s : List ℕ) (p : ℕ) (A : T) (r : List ℕ) : Type 0 wh
   pub then : drop (pastType s p) s ≡ r
   pub inside : pastType s p ≤ length s
 
-pub type-there : (s : List ℕ) (p : ℕ) (A : T) (r : List ℕ) → drop p s ≡ typeBytes A ++ r → TypeThere s p A r
-unfolding typeBytes byte
+pub type-there : (s : List ℕ) (p : ℕ) (A : T) (r : List ℕ) → drop p s ≡ typeWithLength A ++ r → TypeThere s p A r
+unfolding typeWithLength byte
 type-there s p A r e = record { counted = c; body = rw (c, d) (take-append-seam (bytes A) r); then = t; inside = i }
   where
     z : p + 0 ≡ p
@@ -57,7 +57,7 @@ next-type : (s : List ℕ) (As : List T) (r : List ℕ) (p i : ℕ) → i < leng
     → TypeThere s p (getD As i Message) (typesBytes (drop (suc i) As) ++ r)
 next-type s As r p i h e =
     type-there s p (getD As i Message) (typesBytes (drop (suc i) As) ++ r)
-    (e ∙ rw (drop-cons As i Message h) (unfold joined in append-assoc (typeBytes (getD As i Message)) (typesBytes (drop (suc i) As)) r))
+    (e ∙ rw (drop-cons As i Message h) (unfold joined in append-assoc (typeWithLength (getD As i Message)) (typesBytes (drop (suc i) As)) r))
 
 -- the types after a header, from number i on
 types-from : (s : List ℕ) (As : List T) (r : List ℕ) → drop 8 s ≡ typesBytes As ++ r → (i : ℕ) → i ≤ length As → drop (typeAt s i) s ≡ typesBytes (drop i As) ++ r
@@ -86,11 +86,11 @@ statement-four (half d p x) = refl
 statement-four (build (build1 k p)) = refl
 statement-four (build (build2 k p q)) = refl
 
--- and so statements have four each
-fours : (ss : List (Statement signature1)) → length (statementsBytes ss) ≡ 4 * length ss
+-- and so statements have four bytes each
+pub bytes-length : (ss : List (Statement signature1)) → length (statementsBytes ss) ≡ 4 * length ss
 unfolding joined
-fours [] = refl
-fours (st ∷ ss) = length-append (statementBytes st) (statementsBytes ss) ∙ omega (arith, statement-four st, fours ss)
+bytes-length [] = refl
+bytes-length (st ∷ ss) = length-append (statementBytes st) (statementsBytes ss) ∙ omega (arith, statement-four st, bytes-length ss)
 
 -- statement i stands after base: its op, its fields p, q and s, and what comes after it
 pub record StatementThere (s : List ℕ) (base i : ℕ) (st : Statement signature1) (r : List ℕ) : Type 0 where
@@ -159,5 +159,5 @@ module _ (l : StatementList signature1) where
       let s = listBytes l in
       let n : typeAt s (length (l .types)) ≤ length s = types-inside s (l .types) (statementsBytes (l .statements)) header-fits after-header (length (l .types)) (omega arith) in
       let m : statementsAt s ≤ length s = rw file-symbols n in
-      let q : length s - statementsAt s ≡ 4 * length (l .statements) = sym (length-drop (statementsAt s) s) ∙ ap (λ (t : List ℕ). length t) file-statements-there ∙ fours (l .statements) in
+      let q : length s - statementsAt s ≡ 4 * length (l .statements) = sym (length-drop (statementsAt s) s) ∙ ap (λ (t : List ℕ). length t) file-statements-there ∙ bytes-length (l .statements) in
       rw file-count (omega arith)

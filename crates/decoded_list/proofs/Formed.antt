@@ -22,10 +22,11 @@ use Rattle.calculus.specs.Version1.{signature1}
 use Rattle.rendering.specs.Lists.{StatementList}
 use Rattle.rendering.specs.Translation.{parts, registers}
 use Rattle.list.specs.Layout.{symbols, statements, typeAt, statementsAt, gives, given, statementOkAt, statementOk}
+use Rattle.list.specs.Statements.{opAt, operandAt}
 use Rattle.list.specs.Faults.{listRungs}
 use Rattle.list.proofs.Framed.{Listed, list-passes}
 use Rattle.decoded_list.specs.Bytes.{statementBytes, listBytes}
-use Rattle.decoded_list.specs.Statements.{statementOf, opAt, operandAt, statementAt, statementsOf}
+use Rattle.decoded_list.specs.Statements.{statementOf, statementAt, statementsOf}
 use Rattle.decoded_list.specs.Decoded.{Decoded}
 use Rattle.decoded_list.specs.Form.{symbolsNamed, registersGiven, StatementFits, StatementsFit, fit-none, fit-one, InForm}
 use Rattle.decoded_list.proofs.FileLayout.{file-type-there}

@@ -17,7 +17,7 @@ use Rattle.calculus.specs.Terms.{build1, build2, send, receive, fresh, compare,
 use Rattle.calculus.specs.Version1.{encryption, signature1}
 use Rattle.rendering.specs.Lists.{StatementList}
 use Rattle.list.specs.Layout.{symbols, statements, bodyAt, typeAt}
-use Rattle.decoded_list.specs.Bytes.{twoOp, halfOp, statementBytes, statementsBytes, typeBytes, typesBytes, listBytes}
+use Rattle.decoded_list.specs.Bytes.{twoOp, halfOp, statementBytes, statementsBytes, typeWithLength, typesBytes, listBytes}
 use Rattle.decoded_list.specs.Statements.{statementOf, statementsOf}
 use Rattle.decoded_list.specs.Decoded.{Decoded}
 use Rattle.decoded_list.proofs.FileLayout.{statement-four, file-symbols, file-count, after-header, file-body}
@@ -64,7 +64,7 @@ statements-once (a ∷ k) (b ∷ l) n e =
 
 -- types that start two files alike are the same, and so is the rest
 types-once : (k l : List T) (r t : List ℕ) → length k ≡ length l → typesBytes k ++ r ≡ typesBytes l ++ t → (k ≡ l) × (r ≡ t)
-unfolding joined typeBytes
+unfolding joined typeWithLength
 types-once [] [] r t n e = (refl, e)
 types-once [] (B ∷ l) r t n e = absurd (omega arith)
 types-once (A ∷ k) [] r t n e = absurd (omega arith)

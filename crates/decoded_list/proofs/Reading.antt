@@ -1,30 +1,30 @@
 -- A list that passes 1 to 5, read and written again, is the same file: it is the file of a list. Assumes that its elements are bytes:
 -- a low byte of N above 255 would be read as more.
-use mathlib.Core.Path.{_≡_, refl, sym, ap, _∙_}
+use mathlib.Core.Path.{_≡_, refl, ap, _∙_}
 use mathlib.Core.List.{List, [], _∷_, append-nil}
-use Prim.Native.Nat.{ℕ, zero, suc, _+_, _/_, _%_, _≤_, _<_}
+use Prim.Native.Nat.{ℕ, zero, suc, _+_, _/_, _%_, _<_}
 use native.Mathlib.Decide.{decLt}
 use native.Mathlib.Omega.{arith}
 use lib.ListN.{length, take, drop, length-drop}
-use lib.Seq.{length-take-le, drop-cons}
+use lib.Seq.{length-take-le}
 use Rattle.base.specs.Bytes.{byte}
 use Rattle.codes.specs.Marks.{header}
 use Rattle.answers.specs.Ladder.{least}
 use Rattle.answers.specs.declared.Check.the-variants.{Pass}
 use Rattle.entries.specs.Words.{Bytes}
 use Rattle.entries.specs.Tiling.{listed, joined, stretch, numberBytes}
-use Rattle.entries.proofs.Tiling.{listed-length, listed-add, word-bytes, joined-append}
+use Rattle.entries.proofs.Tiling.{listed-length, listed-add, stretch-part, word-bytes, joined-append}
 use Rattle.opening.specs.Opening.{version}
 use Rattle.opening.proofs.Frames.{marked-means, version-bytes}
 use Rattle.types.specs.Types.{Message}
 use Rattle.types.specs.Version1.{T, bytes}
 use Rattle.list.specs.Layout.{symbols, statements, bodyAt, typeAt, statementsAt, given, statementOkAt, statementOk}
 use Rattle.list.specs.Faults.{listRungs}
-use Rattle.list.specs.Tiles.{joined as tiled, typeEntry, statementEntry, written}
+use Rattle.list.specs.Tiles.{tiled, typeEntry, statementEntry, written}
 use Rattle.list.proofs.Framed.{Framed, Listed, list-passes, frame-passes, type-inside}
 use Rattle.list.proofs.SymbolTypes.{type-ok-exact}
 use Rattle.list.proofs.Written.{list-written}
-use Rattle.decoded_list.specs.Bytes.{statementBytes, typeBytes, headerBytes, listBytes}
+use Rattle.decoded_list.specs.Bytes.{statementBytes, typeWithLength, headerBytes, listBytes}
 use Rattle.decoded_list.specs.Statements.{statementAt}
 use Rattle.decoded_list.specs.Decoded.{Decoded}
 use Rattle.decoded_list.proofs.Codes.{entry-in-order, entry-written}
@@ -43,12 +43,6 @@ joined-tiled g f h (suc n) e =
 
 -- ── The file ──
 
--- the bytes of a file from a place on
-take-stretch : (s : List ℕ) (p n : ℕ) → p + n ≤ length s → take n (drop p s) ≡ stretch s p n
-unfolding listed byte
-take-stretch s p zero h = refl
-take-stretch s p (suc n) h = rw (drop-cons s p 0 (omega arith), take-stretch s (suc p) n (omega arith))
-
 -- the header, written again
 header-again : (s : List ℕ) → Bytes s → Framed s → headerBytes (symbols s) (statements s) ≡ take 8 s
 unfolding headerBytes header byte listed
@@ -57,7 +51,7 @@ header-again s h f =
     let (v3, v4) = version-bytes s (f .version-one) in
     let n : statements s / 256 ∷ statements s % 256 ∷ [] ≡ stretch s 6 2 = (unfold numberBytes in word-bytes s h 6) in
     let w : headerBytes (symbols s) (statements s) ≡ stretch s 0 8 = rw (n, m .first, m .second, m .third, v3, v4) in
-    w ∙ sym (take-stretch s 0 8 (m .header-there))
+    w ∙ stretch-part s 0 8 (m .header-there)
 
 module _ (s : List ℕ) (free : ℕ) (l : Listed s free) where
   -- statement i, written again
@@ -77,8 +71,8 @@ module _ (s : List ℕ) (free : ℕ) (l : Listed s free) where
       go (no n) = (Message, λ h. absurd (n h))
 
   -- type i, written again
-  type-again : (i : ℕ) → i < symbols s → typeBytes (type-read i .0) ≡ typeEntry s i
-  unfolding typeBytes typeEntry
+  type-again : (i : ℕ) → i < symbols s → typeWithLength (type-read i .0) ≡ typeEntry s i
+  unfolding typeWithLength typeEntry
   type-again i h =
       let p = typeAt s i in
       let k = type-inside s i (l .framed .length-exact) h in
@@ -98,7 +92,7 @@ module _ (s : List ℕ) (free : ℕ) (l : Listed s free) where
               listed-length (λ i. type-read i .0) 0 (symbols s),
               listed-length (statementAt s) 0 (statements s),
               header-again s b (l .framed),
-              joined-tiled typeBytes (λ i. type-read i .0) (typeEntry s) (symbols s) type-again,
+              joined-tiled typeWithLength (λ i. type-read i .0) (typeEntry s) (symbols s) type-again,
               joined-tiled statementBytes (statementAt s) (statementEntry s) (statements s) statement-again,
             );
       }

@@ -49,12 +49,12 @@ abbrev pub typesTo : Env signature1 → ℕ → List T
 typesTo Γ n = listed Γ 0 n
 
 -- a type: its length byte, then its bytes
-unfoldable pub typeBytes : T → List ℕ
-typeBytes A = length (bytes A) ∷ bytes A
+unfoldable pub typeWithLength : T → List ℕ
+typeWithLength A = length (bytes A) ∷ bytes A
 
 -- the bytes of types, one after the other
 abbrev pub typesBytes : List T → List ℕ
-typesBytes As = joined typeBytes As
+typesBytes As = joined typeWithLength As
 
 -- ── The file ──
 

@@ -1,9 +1,9 @@
 -- The statements that the bytes of a list stand for. Assumes nothing: these are definitions.
 use mathlib.Core.List.{List}
 use Prim.Native.Nat.{ℕ, zero, suc}
-use Rattle.entries.specs.Fields.{code, field}
 use Rattle.entries.specs.Tiling.{listed}
-use Rattle.list.specs.Layout.{statements, statementsAt}
+use Rattle.list.specs.Layout.{statements}
+use Rattle.list.specs.Statements.{opAt, operandAt}
 use Rattle.calculus.specs.Signature.{pairing, seal}
 use Rattle.calculus.specs.Terms.{build2, send, receive, fresh, compare, decrypt, left, right, Statement, act, half, build}
 use Rattle.calculus.specs.Version1.{encryption, signature1}
@@ -20,13 +20,6 @@ statementOf (suc (suc (suc (suc (suc (suc zero)))))) p q x = act (decrypt encryp
 statementOf (suc (suc (suc (suc (suc (suc (suc zero))))))) p q x = build (build2 pairing p q)
 statementOf (suc (suc (suc (suc (suc (suc (suc (suc zero)))))))) p q x = build (build2 (seal encryption) p q)
 statementOf (suc (suc (suc (suc (suc (suc (suc (suc (suc op))))))))) p q x = act (fresh 0)
-
--- the op of statement i of a list, and its field j: p, q, s
-abbrev pub opAt : List ℕ → ℕ → ℕ
-opAt s i = code s 2 (statementsAt s) i
-
-abbrev pub operandAt : List ℕ → ℕ → ℕ → ℕ
-operandAt s i j = field s 2 (statementsAt s) i j
 
 -- statement i of a list
 unfoldable pub statementAt : List ℕ → ℕ → Statement signature1

@@ -2,11 +2,12 @@
 use mathlib.Core.Path.{_≡_, refl, sym, ap}
 use mathlib.Core.Logic.{_⊎_, inl, inr}
 use mathlib.Core.List.{List, [], _∷_, _++_, append-assoc}
-use Prim.Native.Nat.{ℕ, zero, suc, _+_, _*_, _/_, _%_, _<_}
+use Prim.Native.Nat.{ℕ, zero, suc, _+_, _*_, _/_, _%_, _≤_, _<_}
 use native.Mathlib.Omega.{arith}
 use native.Mathlib.Nat.{suc-mul, zero-mul}
 use native.Mathlib.Numerals.{add-one}
-use lib.ListN.{length}
+use lib.ListN.{length, take, drop}
+use lib.Seq.{drop-cons}
 use Rattle.base.specs.Bytes.{byte, word}
 use Rattle.codes.specs.Rows.{fields, fieldBytes, width}
 use Rattle.entries.specs.Fields.{number, placeOf, code, field}
@@ -51,20 +52,32 @@ stretch-from s (x ∷ t) p e =
 pub stretch-whole : (s : List ℕ) → stretch s 0 (length s) ≡ s
 stretch-whole s = stretch-from s s 0 λ i. let z : 0 + i ≡ i = omega arith in ap (byte s) z
 
+-- a stretch inside a file is a part of it
+pub stretch-part : (s : List ℕ) (p n : ℕ) → p + n ≤ length s → stretch s p n ≡ take n (drop p s)
+unfolding listed byte
+stretch-part s p zero h = refl
+stretch-part s p (suc n) h = rw (drop-cons s p 0 (omega arith), stretch-part s (suc p) n (omega arith))
+
+-- stretches that follow each other
+pub stretches : (s : List ℕ) (p n q m : ℕ) → q ≡ p + n → stretch s p n ++ stretch s q m ≡ stretch s p (n + m)
+stretches s p n q m e = rw e (sym (listed-add (byte s) p n m))
+
 -- things of one width, written one after the other
-pub joined-listed : {A : Type 0} (g : A → List ℕ) (f : ℕ → A) (s : List ℕ) (base w : ℕ) → ((i : ℕ) → g (f i) ≡ stretch s (base + i * w) w)
-    → (i n : ℕ) → joined g (listed f i n) ≡ stretch s (base + i * w) (n * w)
+joined-listed : {A : Type 0} (g : A → List ℕ) (f : ℕ → A) (s : List ℕ) (base w i n : ℕ)
+    → ((k : ℕ) → i ≤ k → k < i + n → g (f k) ≡ stretch s (base + k * w) w) → joined g (listed f i n) ≡ stretch s (base + i * w) (n * w)
 unfolding joined listed
-joined-listed g f s base w e i zero = let z : 0 * w ≡ 0 = omega arith in rw z
-joined-listed g f s base w e i (suc n) =
+joined-listed g f s base w i zero e = let z : 0 * w ≡ 0 = omega arith in rw z
+joined-listed g f s base w i (suc n) e =
     let p : suc n * w ≡ w + n * w = omega (arith, suc-mul n w) in
     let q : base + i * w + w ≡ base + suc i * w = omega (arith, suc-mul i w) in
-    rw (e i, joined-listed g f s base w e (suc i) n, p, listed-add (byte s) (base + i * w) w (n * w), q)
+    rw (e i (omega arith) (omega arith), joined-listed g f s base w (suc i) n (λ k h l. e k (omega arith) (omega arith)), p, listed-add (byte s) (base + i * w) w (n * w), q)
 
 -- the same from the first on
-pub joined-all : {A : Type 0} (g : A → List ℕ) (f : ℕ → A) (s : List ℕ) (base w : ℕ) → ((i : ℕ) → g (f i) ≡ stretch s (base + i * w) w)
-    → (n : ℕ) → joined g (listed f 0 n) ≡ stretch s base (n * w)
-joined-all g f s base w e n = let z : base + 0 * w ≡ base = omega (arith, zero-mul w) in rw z at (joined-listed g f s base w e 0 n)
+pub joined-all : {A : Type 0} (g : A → List ℕ) (f : ℕ → A) (s : List ℕ) (base w n : ℕ)
+    → ((k : ℕ) → k < n → g (f k) ≡ stretch s (base + k * w) w) → joined g (listed f 0 n) ≡ stretch s base (n * w)
+joined-all g f s base w n e =
+    let z : base + 0 * w ≡ base = omega (arith, zero-mul w) in
+    rw z at (joined-listed g f s base w 0 n (λ k h l. e k (omega arith)))
 
 -- a 16-bit number is its two bytes
 pub word-bytes : (s : List ℕ) → Bytes s → (p : ℕ) → numberBytes 2 (word s p) ≡ stretch s p 2
@@ -102,7 +115,7 @@ width-parts (suc (suc (suc (suc k)))) h = absurd (omega arith)
 pub entry-bytes : (s : List ℕ) → Bytes s → (kind base : ℕ) → kind < 4 → (i : ℕ) → entryBytes kind (entryOf s kind base i) ≡ stretch s (placeOf kind base i) (width kind)
 unfolding code
 entry-bytes s h kind base k i =
-    rw (width-parts kind k, joined-all (numberBytes (fieldBytes kind)) (field s kind base i) s (placeOf kind base i + 1) (fieldBytes kind) one (fields kind), add-one)
+    rw (width-parts kind k, joined-all (numberBytes (fieldBytes kind)) (field s kind base i) s (placeOf kind base i + 1) (fieldBytes kind) (fields kind) (λ j h. one j), add-one)
     (unfold listed in refl)
   where
     one : (j : ℕ) → numberBytes (fieldBytes kind) (field s kind base i j) ≡ stretch s (placeOf kind base i + 1 + j * fieldBytes kind) (fieldBytes kind)
@@ -110,7 +123,7 @@ entry-bytes s h kind base k i =
 
 -- the n entries from a base offset on, written again, are the bytes there
 pub entries-bytes : (s : List ℕ) → Bytes s → (kind base n : ℕ) → kind < 4 → joined (entryBytes kind) (listed (entryOf s kind base) 0 n) ≡ stretch s base (n * width kind)
-entries-bytes s h kind base n k = joined-all (entryBytes kind) (entryOf s kind base) s base (width kind) (λ i. placed i (entry-bytes s h kind base k i)) n
+entries-bytes s h kind base n k = joined-all (entryBytes kind) (entryOf s kind base) s base (width kind) n (λ i l. placed i (entry-bytes s h kind base k i))
   where
     placed : (i : ℕ) → entryBytes kind (entryOf s kind base i) ≡ stretch s (placeOf kind base i) (width kind) → entryBytes kind (entryOf s kind base i) ≡ stretch s (base + i * width kind) (width kind)
     placed i e = unfold placeOf in e

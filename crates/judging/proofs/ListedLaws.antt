@@ -12,7 +12,7 @@ use Rattle.entries.specs.Fields.{code, field, role}
 use Rattle.opening.specs.Opening.{version}
 use Rattle.list.specs.Layout.{symbols, statements, statementsAt, given, statementOkAt, statementOk}
 use Rattle.list.proofs.Framed.{Listed}
-use Rattle.decoded.proofs.Ranges.{entry-code, entry-field}
+use Rattle.entries.proofs.InOrder.{entry-code, entry-field}
 use Rattle.judging.specs.Turns.{Readable}
 
 -- every op but 2 has a register p; q is a register, or it is not used

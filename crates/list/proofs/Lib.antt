@@ -2,6 +2,7 @@
 pub mod Walks
 pub mod Wanted
 pub mod Framed
+pub mod EntryTests
 pub mod Parts
 pub mod TypesExact
 pub mod LeastFault

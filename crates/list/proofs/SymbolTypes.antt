@@ -4,14 +4,13 @@ use mathlib.Core.Path.{_≡_, refl, sym, _∙_}
 use mathlib.Core.Bool.{Bool, true, false}
 use mathlib.Core.Logic.{_↔_, _⊎_, inl, inr}
 use mathlib.Core.List.{List, [], _∷_, append-nil}
-use Prim.Native.Nat.{ℕ, _+_, _≤_, _<_}
+use Prim.Native.Nat.{ℕ, _≤_, _<_}
 use native.Mathlib.Omega.{arith}
 use lib.Dec.{ltb, leb}
 use lib.ListN.{length}
 use borrow.Author.Tests.{ltb-false, le-ltb, le-leb}
-use Rattle.base.specs.Bytes.{byte}
 use Rattle.base.specs.Search.{Search, clean, wrong, first}
-use Rattle.base.specs.Pick.{pick, both}
+use Rattle.base.specs.Pick.{both}
 use Rattle.base.proofs.Searched.{Found, all-right, first-bad, found}
 use Rattle.answers.specs.Ladder.{least}
 use Rattle.answers.specs.Least.{Fault, Least, none, lowest}
@@ -24,10 +23,9 @@ use Rattle.types.specs.Version1.{codes1, T, bytes}
 use Rattle.types.proofs.PrefixLaws.{not-empty}
 use Rattle.list.specs.Layout.{symbols, bodyAt, pastType, typeAt, wants, typeOkAt, typeOk}
 use Rattle.list.specs.Faults.{frameRungs, typeRung, typeRungs}
-use Rattle.list.specs.TypeOf.{passed, hasType, typeBytes, partOf, FrameFault, MalformedType}
-use Rattle.list.specs.declared.Part.the-variants.{At, Nothing}
+use Rattle.list.specs.TypeOf.{passed, hasType, typeBytes, FrameFault, MalformedType}
 use Rattle.answers.proofs.Passes.{layers-passed, first-passed, rung-passes}
-use Rattle.base.proofs.BothLaws.{both-parts}
+use Rattle.base.proofs.BothLaws.{clash, both-parts}
 use Rattle.list.proofs.Framed.{Framed, frame-passes, type-inside}
 use Rattle.list.proofs.Parts.{has-type}
 use Rattle.list.proofs.TypesExact.{types-exact, type-once}
@@ -45,9 +43,6 @@ type-ok-exact s i f h =
 -- a type has a byte at least
 some-bytes-there : (A : T) → [] ≡ bytes A → ⊥
 some-bytes-there A e = not-empty codes1 A [] (e ∙ sym (append-nil (bytes A)))
-
-differ : {b : Bool} → b ≡ true → b ≡ false → ⊥
-differ e q = let z : _≡_ {A = ℕ} 0 1 = cc in omega arith
 
 -- the answer Pass says that there is no fault
 fault-none : (s : List ℕ) (y : Refusal) → Fault y (frameRungs s) → least (frameRungs s) ≡ Pass → ⊥
@@ -106,15 +101,6 @@ module _ (s : List ℕ) (x : ℕ) where
       go false q = q
       go true q = let (A, w) = handed-type q in absurd (some-bytes-there A (sym e ∙ w))
 
-  -- a part is empty exactly if there is none
-  pub type-part-nothing : (partOf s x ≡ Nothing) ↔ (typeBytes s x ≡ [])
-  unfolding partOf
-  type-part-nothing = (λ e. bytes-none (to (hasType s x) e), λ e. rw (not-handed e))
-    where
-      to : (b : Bool) → pick b (At (typeAt s x + 1) (byte s (typeAt s x))) Nothing ≡ Nothing → b ≡ false
-      to false e = refl
-      to true e = let z : _≡_ {A = ℕ} 0 1 = cc in absurd (omega arith)
-
   -- nothing is handed out exactly if the list has a fault 1 to 4, or a malformed type, or lacks the symbol
   pub type-of-empty : (typeBytes s x ≡ []) ↔ (FrameFault s ⊎ (MalformedType s ⊎ (symbols s ≤ x)))
   type-of-empty = (λ e. to (least (frameRungs s)) refl (frame-least-fault s) (not-handed e), λ w. from w)
@@ -122,7 +108,7 @@ module _ (s : List ℕ) (x : ℕ) where
       types : Framed s → least (frameRungs s) ≡ Pass → hasType s x ≡ false → (c : Search) → Found (typeOk s) 0 (symbols s) c → FrameFault s ⊎ (MalformedType s ⊎ (symbols s ≤ x))
       types f p e clean (all-right g) =
           inr (inr (lacks e (after-pass (frameRungs s) (typeRung s ∷ []) p ∙ rung-passes (typeRung s) (λ k h. g k (omega arith) h))))
-      types f p e (wrong i) (first-bad a h b g) = inr (inl (i, h, λ A q. differ (type-ok-exact s i f h .1 (A, q)) b))
+      types f p e (wrong i) (first-bad a h b g) = inr (inl (i, h, λ A q. clash (type-ok-exact s i f h .1 (A, q)) b))
 
       to : (a : Check) → least (frameRungs s) ≡ a → Least (frameRungs s) a → hasType s x ≡ false → FrameFault s ⊎ (MalformedType s ⊎ (symbols s ≤ x))
       to Pass q l e = types (frame-passes s .0 q) q e (first (typeOk s) 0 (symbols s)) (found (typeOk s) 0 (symbols s) (omega arith))

@@ -27,10 +27,6 @@ unfolding typeAt
 type-at-rises s i zero h = let q : i ≡ 0 = omega arith in rw q (omega arith)
 type-at-rises s i (suc j) h = ⊎-elim (λ e. rw e (omega arith)) (λ l. let q = type-at-rises s i j (omega arith) in omega arith) (eq-or-lt-of-le h)
 
--- and none before the header's end
-pub type-at-header : (s : List ℕ) (i : ℕ) → 8 ≤ typeAt s i
-type-at-header s i = omega (arith, type-at-first s, type-at-rises s 0 i (omega arith))
-
 -- the registers before the first statement, and after one more
 pub given-first : (s : List ℕ) (free : ℕ) → free ≡ given s free 0
 unfolding given

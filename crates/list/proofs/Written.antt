@@ -15,7 +15,7 @@ use Rattle.answers.specs.declared.Check.the-variants.{Pass}
 use Rattle.entries.specs.Fields.{number, placeOf, code, field}
 use Rattle.list.specs.Layout.{symbols, statements, bodyAt, pastType, typeAt, statementsAt}
 use Rattle.list.specs.Faults.{frameRungs}
-use Rattle.list.specs.Tiles.{joined, typeEntry, statementEntry, written}
+use Rattle.list.specs.Tiles.{tiled, typeEntry, statementEntry, written}
 use Rattle.list.proofs.Framed.{frame-passes, type-inside}
 
 -- the bytes from a place on, one by one
@@ -24,14 +24,14 @@ unfolding byte
 next-byte s p h = rw add-one (drop-cons s p 0 h)
 
 -- the header and the first n types
-types-tile : (s : List ℕ) (n : ℕ) → ((i : ℕ) → i < n → pastType s (typeAt s i) ≤ length s) → take (typeAt s n) s ≡ take 8 s ++ joined (typeEntry s) n
-unfolding typeAt joined typeEntry
+types-tile : (s : List ℕ) (n : ℕ) → ((i : ℕ) → i < n → pastType s (typeAt s i) ≤ length s) → take (typeAt s n) s ≡ take 8 s ++ tiled (typeEntry s) n
+unfolding typeAt tiled typeEntry
 types-tile s zero f = sym (append-nil (take 8 s))
 types-tile s (suc n) f =
     let p = typeAt s n in
     let h : pastType s p ≤ length s = f n (omega arith) in
     let q : p + 1 + byte s p ≡ p + suc (byte s p) = omega arith in
-    rw (q, take-add p (suc (byte s p)) s, next-byte s p (omega arith), types-tile s n (λ i l. f i (omega arith))) (append-assoc (take 8 s) (joined (typeEntry s) n) (byte s p ∷ bodyAt s p))
+    rw (q, take-add p (suc (byte s p)) s, next-byte s p (omega arith), types-tile s n (λ i l. f i (omega arith))) (append-assoc (take 8 s) (tiled (typeEntry s) n) (byte s p ∷ bodyAt s p))
 
 -- the four bytes of a statement
 four-bytes : (s : List ℕ) (p : ℕ) → p + 4 ≤ length s → take 4 (drop p s) ≡ byte s p ∷ byte s (p + 1) ∷ byte s (p + 2) ∷ byte s (p + 3) ∷ []
@@ -54,13 +54,13 @@ statement-bytes s i h = at (statementsAt s) h
         rw (p, z, q, r) (four-bytes s (base + 4 * i) h)
 
 -- what stands before the statements, and the first n of them
-statements-tile : (s : List ℕ) (n : ℕ) → statementsAt s + 4 * n ≤ length s → take (statementsAt s + 4 * n) s ≡ take (statementsAt s) s ++ joined (statementEntry s) n
-unfolding joined
+statements-tile : (s : List ℕ) (n : ℕ) → statementsAt s + 4 * n ≤ length s → take (statementsAt s + 4 * n) s ≡ take (statementsAt s) s ++ tiled (statementEntry s) n
+unfolding tiled
 statements-tile s zero h = rw add-zero (sym (append-nil (take (statementsAt s) s)))
 statements-tile s (suc n) h =
     let b = statementsAt s in
     let q : b + 4 * suc n ≡ b + 4 * n + 4 = omega arith in
-    rw (q, take-add (b + 4 * n) 4 s, statements-tile s n (omega arith), statement-bytes s n (omega arith)) (append-assoc (take b s) (joined (statementEntry s) n) (statementEntry s n))
+    rw (q, take-add (b + 4 * n) 4 s, statements-tile s n (omega arith), statement-bytes s n (omega arith)) (append-assoc (take b s) (tiled (statementEntry s) n) (statementEntry s n))
 
 -- a list that passes 1 to 4 is its header, its types and its statements
 pub list-written : (s : List ℕ) → least (frameRungs s) ≡ Pass → s ≡ written s
@@ -68,4 +68,4 @@ unfolding written
 list-written s e =
     let f = frame-passes s .0 e in
     let all : take (statementsAt s + 4 * statements s) s ≡ s = take-all (statementsAt s + 4 * statements s) s (omega arith) in
-    sym all ∙ statements-tile s (statements s) (omega arith) ∙ rw (types-tile s (symbols s) (λ i h. type-inside s i (f .length-exact) h)) (append-assoc (take 8 s) (joined (typeEntry s) (symbols s)) (joined (statementEntry s) (statements s)))
+    sym all ∙ statements-tile s (statements s) (omega arith) ∙ rw (types-tile s (symbols s) (λ i h. type-inside s i (f .length-exact) h)) (append-assoc (take 8 s) (tiled (typeEntry s) (symbols s)) (tiled (statementEntry s) (statements s)))

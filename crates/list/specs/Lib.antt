@@ -1,5 +1,6 @@
 -- What the promises of `list` speak of.
 pub mod Layout
+pub mod Statements
 pub mod Faults
 pub mod TypeOf
 pub mod Tiles

@@ -7,9 +7,9 @@ use Rattle.entries.specs.Fields.{code, field}
 use Rattle.list.specs.Layout.{symbols, statements, bodyAt, typeAt, statementsAt}
 
 -- f 0, f 1, .. up to f n and without it, one after the other
-unfoldable pub joined : (ℕ → List ℕ) → ℕ → List ℕ
-joined f zero = []
-joined f (suc n) = joined f n ++ f n
+unfoldable pub tiled : (ℕ → List ℕ) → ℕ → List ℕ
+tiled f zero = []
+tiled f (suc n) = tiled f n ++ f n
 
 -- type i: its length byte and its bytes
 unfoldable pub typeEntry : List ℕ → ℕ → List ℕ
@@ -22,4 +22,4 @@ statementEntry s i =
 
 -- the list written out
 unfoldable pub written : List ℕ → List ℕ
-written s = take 8 s ++ (joined (typeEntry s) (symbols s) ++ joined (statementEntry s) (statements s))
+written s = take 8 s ++ (tiled (typeEntry s) (symbols s) ++ tiled (statementEntry s) (statements s))

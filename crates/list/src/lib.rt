@@ -67,7 +67,7 @@ fn length_ok(s: &[u8]) -> bool
     s.len() == statements_at(s) as usize + 4 * statement_count(s) as usize
 }
 
-pub fn check_frame(s: &[u8]) -> Check
+fn check_frame(s: &[u8]) -> Check
     ensures { λ r. ⌜ r ≡ least (frameRungs (now (s .entry))) ⌝ }
 {
     opening::check_frame(s, codes::LIST, counts_ok(s), length_ok(s))
@@ -123,7 +123,7 @@ fn walk_types(s: &[u8]) -> Check
 }
 
 // Numbers 1 to 4, and 5 of the types.
-pub fn check_types(s: &[u8]) -> Check
+fn check_types(s: &[u8]) -> Check
     ensures { λ r. ⌜ r ≡ least (typeRungs (now (s .entry))) ⌝ }
 {
     let a = check_frame(s);

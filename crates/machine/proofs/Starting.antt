@@ -12,7 +12,7 @@ use Rattle.entries.specs.Tiling.{listed, joined}
 use Rattle.entries.proofs.Tiling.{listed-length, listed-add}
 use Rattle.list.proofs.Framed.{list-passes}
 use Rattle.trace.specs.Layout.{values, supplies, startings, starting, supply}
-use Rattle.trace.proofs.Passed.{trace-passes}
+use Rattle.trace.proofs.Passes.{trace-passes}
 use Rattle.types.specs.Version1.{T}
 use Rattle.calculus.proofs.Lists.{map-append}
 use Rattle.running.specs.Lists.{Register, symbolRegister}
@@ -80,7 +80,7 @@ pub whole-run : (l tr z w v y o g g′ : List ℕ) (n count : ℕ) (r : Ran) →
 whole-run l tr z w v y o g g′ n count r c st q e f = record {
   ran = λ As t pl pt vr mr.
       let fl = list-passes l (startings tr) .0 pl .framed in
-      let ft = trace-passes tr pt .framed in
+      let ft = trace-passes tr .0 pt .framed in
       let k = c .copied pt (omega arith) in
       let b = values-length tr in
       let d = registers-count in

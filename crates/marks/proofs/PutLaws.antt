@@ -55,13 +55,7 @@ module _ {o : List ℕ} {f : ℕ → Bool} (v i : ℕ) (p : Put blank o f v) (h 
   unfolding blank
   here = p .at i (rw (length-replicate {A = ℕ} 256 0) h) ∙ rw (getD-replicate {A = ℕ} 256 i 0 0 h)
 
-  pub mark-put : f i ≡ true → getD o i 0 ≡ v
-  mark-put e = here ∙ rw e
-
-  pub mark-not-put : f i ≡ false → getD o i 0 ≡ 0
-  mark-not-put e = here ∙ rw e
-
-  -- the same the other way round, for a mark that is not 0
+  -- for a mark that is not 0
   pub no-mark : (v ≡ 0 → ⊥) → getD o i 0 ≡ 0 → f i ≡ false
   no-mark n e = go (f i) here
     where

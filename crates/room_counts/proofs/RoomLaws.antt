@@ -16,7 +16,8 @@ use Rattle.list.specs.Layout.{statements, statementsAt}
 use Rattle.calculus.specs.Terms.{send, receive, fresh, compare, split, decrypt, Statement, act, half, build}
 use Rattle.calculus.specs.Version1.{signature1}
 use Rattle.running.specs.Demand3.{builds, messages, speaks}
-use Rattle.decoded_list.specs.Statements.{statementOf, opAt, operandAt, statementAt, statementsOf}
+use Rattle.list.specs.Statements.{opAt, operandAt}
+use Rattle.decoded_list.specs.Statements.{statementOf, statementAt, statementsOf}
 use Rattle.room_counts.specs.Room.{room, oneIf, needingTo, needing}
 
 -- ── One more statement ──

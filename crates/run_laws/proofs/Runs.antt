@@ -12,7 +12,7 @@ use Rattle.table_layout.specs.Layout.{symbols}
 use Rattle.table.specs.Faults.{tableRungs}
 use Rattle.trace.specs.Layout.{values, supplies, startings, starting, supply}
 use Rattle.trace.specs.Faults.{traceRungs}
-use Rattle.trace.proofs.Passed.{sound}
+use Rattle.trace.proofs.Passes.{trace-passes}
 use Rattle.types.specs.Types.{Message}
 use Rattle.types.specs.Version1.{T}
 use Rattle.calculus.specs.Figure2.{Env}
@@ -63,7 +63,7 @@ pub checked-trace : (tr : List ℕ) → least (traceRungs tr) ≡ Pass → Check
 unfolding traceOf
 checked-trace tr e =
     let v = trace-values tr e in
-    let s = sound tr e in
+    let s = trace-passes tr .0 e .values-right in
     record {
       closed = v .0;
       once = v .1;

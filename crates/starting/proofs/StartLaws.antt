@@ -19,7 +19,7 @@ use Rattle.table.specs.Faults.{tableRungs}
 use Rattle.list.specs.Layout.{symbols, typeAt}
 use Rattle.trace.specs.Layout.{values, startings, starting}
 use Rattle.trace.specs.Faults.{traceRungs}
-use Rattle.trace.proofs.Passed.{trace-passes}
+use Rattle.trace.proofs.Passes.{trace-passes}
 use Rattle.types.specs.Types.{Ty}
 use Rattle.types.specs.Version1.{bytes}
 use Rattle.calculus.specs.Terms.{Atom, bound}
@@ -43,7 +43,7 @@ use Rattle.starting.specs.Fourteen.{startFits, starts, wrong-number, lac
 
 -- a checked trace has a whole header
 pub header-whole : (tr : List ℕ) → least (traceRungs tr) ≡ Pass → 10 ≤ length tr
-header-whole tr e = let l = trace-passes tr e .framed .whole-length in omega arith
+header-whole tr e = let l = trace-passes tr .0 e .framed .whole-length in omega arith
 
 pub seen-short : (l tr : List ℕ) (x i : ℕ) (r : Bool) → length tr < 10 → StartSeen l tr x i r
 seen-short l tr x i r h = record { seen = λ e d g. absurd (omega (arith, header-whole tr e)) }

@@ -24,18 +24,18 @@ use Rattle.rendering.specs.Translation.{parts, translation, translated, InRange
 use Rattle.rendering.proofs.Version1Laws.{length-is-known1, translation-fits1}
 use Rattle.entries.specs.Tiling.{listed}
 use Rattle.decoded.specs.Meaning.{HasPart, Uses, Named}
-use Rattle.decoded.specs.Table.{actOf, sortAt, stepAt, tableOf}
-use Rattle.entries.proofs.Tiling.{listed-length}
+use Rattle.decoded.specs.Table.{actOf, stepAt, tableOf}
 use Rattle.decoded.proofs.Naming.{named-means}
 use Rattle.decoded.proofs.Passed.{table-passed}
 use Rattle.decoded.proofs.Ranges.{binder-there}
-use Rattle.decoded.proofs.Shapes.{step-role, step-binds}
+use Rattle.decoded.proofs.Shapes.{term-role, step-role, step-binds}
 use Rattle.decoded.proofs.Holding.{entries-length}
+use Rattle.decoded.proofs.Steps.{sorts-length, steps-length}
 use Rattle.decoded.proofs.Checked.{table-checked}
 use Rattle.decoded.proofs.Unlike.{terms-unrepeated}
 use Rattle.decoded.specs.Indexes.{entriesOf}
 use Rattle.statement_counts.specs.Counts.{dueCount, compoundCount}
-use Rattle.decoded.proofs.Tabled.{counts-small, a-leaf, a-compound, step-as, step-known, term-role}
+use Rattle.decoded.proofs.Tabled.{counts-small, a-leaf, a-compound, step-as, step-known}
 
 in-listed : {A : Type 0} (f : ℕ → A) (i n k : ℕ) → i ≤ k → k < i + n → In (f k) (listed f i n)
 unfolding listed
@@ -47,21 +47,12 @@ in-listed {A} f i (suc n) k p q = go (ℕ-discrete k i) (λ l. in-listed f (suc 
     go (no d) g = there (g (omega arith))
 
 module _ (s : List ℕ) (e : least (tableRungs s) ≡ Pass) where
-  sorts-length : length (tableOf s .sorts) ≡ symbols s
-  sorts-length = listed-length (sortAt s) 0 (symbols s)
-
-  terms-length : length (tableOf s .entries) ≡ terms s
-  terms-length = entries-length s
-
-  steps-length : length (tableOf s .steps) ≡ steps s
-  steps-length = listed-length (stepAt s) 0 (steps s)
-
   leaves : (i x : ℕ) → i < length (tableOf s .entries) → entryAt signature1 0 (tableOf s .entries) i ≡ leafEntry x → x < length (tableOf s .sorts)
   unfolding entriesOf
-  leaves i x h q = rw sorts-length (go (ℕ-discrete (code s 0 (termsAt s) i) 0))
+  leaves i x h q = rw (sorts-length s) (go (ℕ-discrete (code s 0 (termsAt s) i) 0))
     where
       l : i < terms s
-      l = rw terms-length at h
+      l = rw (entries-length s) at h
 
       go : Dec (code s 0 (termsAt s) i ≡ 0) → x < symbols s
       go (yes c) = let f = a-leaf s e i l c in let y : _≡_ {A = Entry signature1 ℕ} (leafEntry x) (leafEntry (termField s i 0)) = sym q ∙ f .0 in let z : x ≡ termField s i 0 = cc in omega (arith, f .1)
@@ -73,7 +64,7 @@ module _ (s : List ℕ) (e : least (tableRungs s) ≡ Pass) where
   all-bound i (suc m) h =
       let n = table-passed s e .entered in
       let l : i < steps s = omega arith in
-      all-append (all-map (λ x b. rw sorts-length (binder-there s n i x l b)) (step-binds s n i l)) (all-bound (suc i) m (omega arith))
+      all-append (all-map (λ x b. rw (sorts-length s) (binder-there s n i x l b)) (step-binds s n i l)) (all-bound (suc i) m (omega arith))
 
   pub in-range : InRange signature1 (tableOf s)
   in-range = record { leaves = leaves; binders = all-bound 0 (steps s) (omega arith) }
@@ -96,7 +87,7 @@ module _ (s : List ℕ) (e : least (tableRungs s) ≡ Pass) where
 
       go : Dec (code s 0 (termsAt s) t ≡ 0) → Used signature1 (tableOf s) i
       go (yes c) = absurd (no-part (p .at) (p .among) c (p .is-part))
-      go (no n) = by-term {j = t} (rw terms-length l) (a-compound s e t l n .entry) (at-is (p .at) (p .among) (p .names))
+      go (no n) = by-term {j = t} (rw (entries-length s) l) (a-compound s e t l n .entry) (at-is (p .at) (p .among) (p .names))
 
   operand-in : (k i : ℕ) → k < steps s → Uses s k i → In i (operands signature1 (stepAt s k))
   unfolding actOf operands cell byte
@@ -127,7 +118,7 @@ module _ (s : List ℕ) (e : least (tableRungs s) ≡ Pass) where
       by-op (suc (suc (suc (suc (suc (suc op)))))) c h j g r q = absurd (omega arith)
 
   pub none-idle : NoneIdle signature1 (tableOf s)
-  none-idle i h = go (named-means s i .0 (table-passed s e .each-named i (rw terms-length at h)))
+  none-idle i h = go (named-means s i .0 (table-passed s e .each-named i (rw (entries-length s) at h)))
     where
       go : Named s i → Used signature1 (tableOf s) i
       go (inl (t, l, p)) = part-in t i l p
@@ -142,5 +133,5 @@ module _ (s : List ℕ) (e : least (tableRungs s) ≡ Pass) where
   pub all-fits : (length (translation signature1 halves (tableOf s)) ≤ 256) × (length (translated signature1 halves (tableOf s) .1) ≤ 224)
   all-fits =
       let k = counts-small s e in
-      let f = translation-fits1 halves (tableOf s) (table-checked s e) in-range (rw sorts-length (k .0)) (rw terms-length (k .1)) (rw steps-length (k .2)) in
+      let f = translation-fits1 halves (tableOf s) (table-checked s e) in-range (rw (sorts-length s) (k .0)) (rw (entries-length s) (k .1)) (rw (steps-length s) (k .2)) in
       (f .0, f .1)

@@ -5,11 +5,10 @@ use answers::Check;
 ghost use mathlib.Core.Path.{_≡_};
 ghost use mathlib.Core.List.{[], _∷_};
 ghost use Prim.Native.Nat.{_+_, _<_};
-ghost use lib.ListN.{getD};
 ghost use Rattle.answers.specs.Ladder.{least};
 ghost use Rattle.marks.specs.Put.{Put, blank};
 ghost use Rattle.table_layout.specs.Layout.{terms, steps};
-ghost use Rattle.table_binding.specs.Binding.{isBinder, bindsAt, binds, binder, again, twice, bindsNew, larger, fieldLatest, latest, fieldInScope, inScope, bindRung, scopeRung, bindRungs};
+ghost use Rattle.table_binding.specs.Binding.{isBinder, bindsAt, binds, again, twice, bindsNew, larger, fieldLatest, latest, fieldInScope, inScope, bindRung, scopeRung, bindRungs};
 ghost use Rattle.table_binding.specs.Tables.{Binders, BindersIf, Latest};
 
 // Field j of step k binds a symbol.

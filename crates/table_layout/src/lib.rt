@@ -33,7 +33,7 @@ pub fn terms_at(s: &[u8]) -> u32
     8 + symbol_count(s) as u32
 }
 
-pub fn steps_at(s: &[u8]) -> u32
+fn steps_at(s: &[u8]) -> u32
     ensures { λ r. ⌜ r ≡ stepsAt (now (s .entry)) ⌝ }
 {
     8 + symbol_count(s) as u32 + 3 * term_count(s) as u32

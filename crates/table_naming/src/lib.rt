@@ -6,8 +6,7 @@ ghost use mathlib.Core.List.{[], _∷_};
 ghost use Rattle.answers.specs.Ladder.{least};
 ghost use Rattle.base.specs.Search.{some};
 ghost use Rattle.marks.specs.Put.{Put, blank};
-ghost use Rattle.table_layout.specs.Layout.{terms, steps, termsAt};
-ghost use Rattle.entries.specs.Faults.{twinRung};
+ghost use Rattle.table_layout.specs.Layout.{terms, steps};
 ghost use Rattle.table_naming.specs.Naming.{partAt, hasPart, useAt, usesTerm, named, idleRung, termRungs};
 
 // Marks the part in field j of term e.

@@ -1,7 +1,7 @@
 -- A trace that was read and is written again is the same file, so no second file holds the same. Assumes nothing.
 use mathlib.Core.Path.{_≡_, refl, sym, ap, _∙_}
 use mathlib.Core.Bool.{true}
-use mathlib.Core.List.{List, _++_}
+use mathlib.Core.List.{List}
 use Prim.Native.Nat.{ℕ, _+_, _*_}
 use native.Mathlib.Omega.{arith}
 use lib.ListN.{length}
@@ -14,14 +14,14 @@ use Rattle.trace.specs.Layout.{values, supplies, startings, startsAt, su
 use Rattle.entries.specs.Words.{Bytes}
 use Rattle.entries.specs.Tiling.{listed, joined, stretch, numberBytes, entryOf}
 use Rattle.trace.specs.Decoded.{traceOf, headerBytes, traceBytes}
-use Rattle.trace.specs.Checked.{Framed}
-use Rattle.entries.proofs.Tiling.{listed-length, listed-add, stretch-whole, joined-all, word-bytes, entries-bytes}
+use Rattle.trace.specs.Right.{Framed}
+use Rattle.entries.proofs.Tiling.{listed-length, stretch-whole, stretches, joined-all, word-bytes, entries-bytes}
 
 -- 16-bit indexes from a base offset on, written again
 pub indexes-bytes : (s : List ℕ) → Bytes s → (base n : ℕ) → joined (numberBytes 2) (listed (index s base) 0 n) ≡ stretch s base (2 * n)
 indexes-bytes s h base n =
     let z : 2 * n ≡ n * 2 = omega arith in
-    rw z (joined-all (numberBytes 2) (index s base) s base 2 (λ i. one i) n)
+    rw z (joined-all (numberBytes 2) (index s base) s base 2 n (λ i h. one i))
   where
     one : (i : ℕ) → numberBytes 2 (index s base i) ≡ stretch s (base + i * 2) 2
     one i =
@@ -33,10 +33,6 @@ indexes-bytes s h base n =
 mark-bytes : (s : List ℕ) → marked 2 s ≡ true → listed (mark 2) 0 3 ≡ stretch s 0 3
 unfolding listed
 mark-bytes s e = let m = marked-means 2 s .0 e in rw (← m .first, ← m .second, ← m .third)
-
--- parts that follow each other
-stretches : (s : List ℕ) (p n q m : ℕ) → q ≡ p + n → stretch s p n ++ stretch s q m ≡ stretch s p (n + m)
-stretches s p n q m e = rw e (sym (listed-add (byte s) p n m))
 
 -- the header, written again
 header-bytes : (s : List ℕ) → Bytes s → Framed s → headerBytes (traceOf s) ≡ stretch s 0 10

@@ -4,11 +4,11 @@ ghost use mathlib.Core.Path.{_≡_};
 ghost use mathlib.Core.List.{[], _∷_};
 ghost use Rattle.base.specs.Bytes.{word};
 ghost use Rattle.answers.specs.Ladder.{least};
-ghost use Rattle.trace.specs.Layout.{values, supplies, startings, startsAt, suppliesAt, indexPlace, index, starting, supply, tag, left, right, countsOk, lengthOk};
+ghost use Rattle.trace.specs.Layout.{values, supplies, startings, startsAt, suppliesAt, indexPlace, index, starting, supply, countsOk, lengthOk};
 ghost use Rattle.trace.specs.Faults.{frameRungs, indexRung, heldRungs, entryRungs, traceRungs};
 
 // Where the values begin.
-pub const VALUES_AT: u32 = 10;
+const VALUES_AT: u32 = 10;
 
 // The 16-bit number at a place of the header, high byte first.
 fn short_at(s: &[u8], at: u8) -> u16
@@ -62,7 +62,7 @@ fn index_place(base: u32, i: u16) -> usize
 }
 
 // 16-bit index i, of those from a base offset on.
-pub fn index_at(s: &[u8], base: u32, i: u16) -> usize
+fn index_at(s: &[u8], base: u32, i: u16) -> usize
     ensures { λ r. ⌜ r ≡ index (now (s .entry)) base i ⌝ }
 {
     base::word_at(s, index_place(base, i))
@@ -80,27 +80,6 @@ pub fn supply_at(s: &[u8], i: u16) -> usize
     ensures { λ r. ⌜ r ≡ supply (now (s .entry)) i ⌝ }
 {
     index_at(s, supplies_at(s), i)
-}
-
-// The tag of value i.
-pub fn value_tag(s: &[u8], i: u16) -> u8
-    ensures { λ r. ⌜ r ≡ tag (now (s .entry)) i ⌝ }
-{
-    entries::code_at(s, codes::VALUE, VALUES_AT, i)
-}
-
-// The first number of value i: an atom's kind, or a part.
-pub fn value_left(s: &[u8], i: u16) -> usize
-    ensures { λ r. ⌜ r ≡ left (now (s .entry)) i ⌝ }
-{
-    entries::field_at(s, codes::VALUE, VALUES_AT, i, 0)
-}
-
-// The second number of value i: an atom's number, or a part.
-pub fn value_right(s: &[u8], i: u16) -> usize
-    ensures { λ r. ⌜ r ≡ right (now (s .entry)) i ⌝ }
-{
-    entries::field_at(s, codes::VALUE, VALUES_AT, i, 1)
 }
 
 // No count is over its limit.
@@ -123,7 +102,7 @@ fn length_ok(s: &[u8]) -> bool
 }
 
 // Number 5 of 16-bit indexes from a base offset on: each lies below the limit.
-pub fn check_indexes(s: &[u8], file: u8, base: u32, limit: u16, count: u16) -> Check
+fn check_indexes(s: &[u8], file: u8, base: u32, limit: u16, count: u16) -> Check
     ensures { λ r. ⌜ r ≡ least (indexRung (now (s .entry)) file base limit count ∷ []) ⌝ }
 {
     let mut i = 0;
@@ -168,7 +147,7 @@ fn check_entries(s: &[u8]) -> Check
 }
 
 // Numbers 1 to 4: the parts of the trace are there.
-pub fn check_frame(s: &[u8]) -> Check
+fn check_frame(s: &[u8]) -> Check
     ensures { λ r. ⌜ r ≡ least (frameRungs (now (s .entry))) ⌝ }
 {
     opening::check_frame(s, codes::TRACE, counts_ok(s), length_ok(s))

@@ -28,7 +28,8 @@ use Rattle.translate.specs.Making.{Ready, Done, stateBytes, stepStatedBy
 use Rattle.decoded.proofs.Tabled.{step-as, step-known}
 use Rattle.statement_counts.proofs.Counts.{few-due}
 use Rattle.translate.proofs.StepLaws.{first-there, second-there}
-use Rattle.translate.proofs.Writing.{bytes-length, done-fits, ready-first, ready-second, ready-as, done-both}
+use Rattle.decoded_list.proofs.FileLayout.{bytes-length}
+use Rattle.translate.proofs.Writing.{done-fits, ready-first, ready-second, ready-as, done-both}
 
 stated-of : (s : List ℕ) (k op : ℕ) → code s 1 (stepsAt s) k ≡ op → (ns : List Meaning)
     → stepStated s k ns ≡ map (stated signature1 (entriesOf s) ns) (duesOf signature1 halves (actOf op (stepField s k 0) (stepField s k 1) (stepField s k 2) (stepField s k 3)))

@@ -1,18 +1,19 @@
 -- What is made one after the other, each through a part that starts where the last one ended. Assumes nothing.
 use mathlib.Core.Path.{_≡_, refl, ap, _∙_}
-use mathlib.Core.List.{List, [], _∷_, _++_}
+use mathlib.Core.List.{List, [], _++_}
 use Prim.Native.Nat.{ℕ, _+_, _-_, _*_, _≤_}
 use native.Mathlib.Omega.{arith}
 use lib.ListN.{length, take, drop, length-append}
 use borrow.Rule.Slice.PartMut.{putMid}
 use Rattle.buffers.proofs.Parts.{part-length}
 use Rattle.buffers.proofs.OverLaws.{over-none, over-length, over-lent}
-use Rattle.calculus.specs.Terms.{build1, build2, send, receive, fresh, compare, split, decrypt, Statement, act, half, build}
+use Rattle.calculus.specs.Terms.{Statement}
 use Rattle.calculus.specs.Version1.{signature1}
 use Rattle.rendering.specs.Judge.{Meaning}
 use Rattle.entries.specs.Tiling.{joined}
 use Rattle.entries.proofs.Tiling.{joined-append}
 use Rattle.decoded_list.specs.Bytes.{statementBytes, statementsBytes}
+use Rattle.decoded_list.proofs.FileLayout.{bytes-length}
 use Rattle.registers.specs.Held.{Held}
 use Rattle.translate.specs.Stepwise.{Making, after}
 use Rattle.translate.specs.Making.{Ready, Done}
@@ -21,23 +22,6 @@ use Rattle.translate.specs.Making.{Ready, Done}
 
 pub bytes-append : (a b : List (Statement signature1)) → statementsBytes (a ++ b) ≡ statementsBytes a ++ statementsBytes b
 bytes-append a b = joined-append statementBytes a b
-
-four : (x : Statement signature1) → length (statementBytes x) ≡ 4
-unfolding statementBytes
-four (act (send p q)) = refl
-four (act (receive p x)) = refl
-four (act (fresh x)) = refl
-four (act (compare p q)) = refl
-four (act (split p x y)) = refl
-four (act (decrypt e p q x)) = refl
-four (half d p x) = refl
-four (build (build1 k p)) = refl
-four (build (build2 k p q)) = refl
-
-pub bytes-length : (a : List (Statement signature1)) → length (statementsBytes a) ≡ 4 * length a
-unfolding joined
-bytes-length [] = refl
-bytes-length (x ∷ a) = rw (length-append, four x, bytes-length a) (omega arith)
 
 -- ── One after the other ──
 

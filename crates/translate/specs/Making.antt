@@ -1,7 +1,7 @@
 -- What each function of the translation needs and leaves, and the bytes that it writes. Assumes nothing: these are definitions.
 use mathlib.Core.Path.{_≡_}
 use mathlib.Core.List.{List, [], _∷_}
-use Prim.Native.Nat.{ℕ, zero, suc, _+_, _-_, _*_, _≤_}
+use Prim.Native.Nat.{ℕ, zero, suc, _+_, _*_, _≤_}
 use lib.ListN.{length}
 use Rattle.entries.specs.Fields.{code}
 use Rattle.table_layout.specs.Layout.{termsAt, stepsAt, termField, stepField}

@@ -1,11 +1,8 @@
 // Types in prefix order: where one ends, a copy of one, and the greatest lower bound of two.
 // Each reader starts at a place of any list; nothing is asked of the bytes. What is written goes to the start of a lent buffer.
 ghost use mathlib.Core.Path.{_≡_};
-ghost use Prim.Native.Nat.{_≤_};
-ghost use lib.ListN.{length};
 ghost use Rattle.types.specs.Prefix.{EndIs};
 ghost use Rattle.types.specs.Version1.{codes1};
-ghost use Rattle.buffers.specs.Over.{over};
 ghost use Rattle.type_bytes.specs.Ends.{endOf, Past};
 ghost use Rattle.type_bytes.specs.Meets.{Copied, Meets, howOf};
 

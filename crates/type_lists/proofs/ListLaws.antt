@@ -14,22 +14,22 @@ use Rattle.buffers.proofs.OverLaws.{over-none, over-fits, over-lent, lent-lengt
 use Rattle.calculus.specs.Figure2.{Env}
 use Rattle.calculus.specs.Version1.{signature1}
 use Rattle.slots.specs.Slots.{Holds}
-use Rattle.decoded_list.specs.Bytes.{typeBytes, typesBytes, typesTo}
+use Rattle.decoded_list.specs.Bytes.{typeWithLength, typesBytes, typesTo}
 use Rattle.type_lists.specs.Lists.{TypeIs, SizeIs, TypePut, TypesPut}
 
 -- the bytes of one type more
-types-more : (Γ : Env signature1) (x : ℕ) → typesBytes (typesTo Γ (x + 1)) ≡ typesBytes (typesTo Γ x) ++ typeBytes (Γ x)
+types-more : (Γ : Env signature1) (x : ℕ) → typesBytes (typesTo Γ (x + 1)) ≡ typesBytes (typesTo Γ x) ++ typeWithLength (Γ x)
 unfolding joined listed
 types-more Γ x =
     let from : 0 + x ≡ x = omega arith in
     let q : listed Γ 0 (x + 1) ≡ typesTo Γ x ++ (Γ x ∷ []) = rw from at (listed-add Γ 0 x 1) in
-    ap (λ (l : List T). joined typeBytes l) q ∙ joined-append typeBytes (typesTo Γ x) (Γ x ∷ []) ∙ ap (λ (l : List ℕ). typesBytes (typesTo Γ x) ++ l) (append-nil (typeBytes (Γ x)))
+    ap (λ (l : List T). joined typeWithLength l) q ∙ joined-append typeWithLength (typesTo Γ x) (Γ x ∷ []) ∙ ap (λ (l : List ℕ). typesBytes (typesTo Γ x) ++ l) (append-nil (typeWithLength (Γ x)))
 
-more-length : (Γ : Env signature1) (x : ℕ) → length (typesBytes (typesTo Γ (x + 1))) ≡ length (typesBytes (typesTo Γ x)) + length (typeBytes (Γ x))
-more-length Γ x = ap (λ (l : List ℕ). length l) (types-more Γ x) ∙ length-append (typesBytes (typesTo Γ x)) (typeBytes (Γ x))
+more-length : (Γ : Env signature1) (x : ℕ) → length (typesBytes (typesTo Γ (x + 1))) ≡ length (typesBytes (typesTo Γ x)) + length (typeWithLength (Γ x))
+more-length Γ x = ap (λ (l : List ℕ). length l) (types-more Γ x) ∙ length-append (typesBytes (typesTo Γ x)) (typeWithLength (Γ x))
 
-entry-length : (A : T) → length (typeBytes A) ≡ suc (length (bytes A))
-unfolding typeBytes
+entry-length : (A : T) → length (typeWithLength A) ≡ suc (length (bytes A))
+unfolding typeWithLength
 entry-length A = refl
 
 -- ── Counted ──
@@ -60,7 +60,7 @@ module _ (w z : List ℕ) (x : ℕ) (t : List ℕ) (i : TypeIs w x t) where
 
   module _ (l : length t + 1 ≤ length z) (b : ℕ) (hb : b ≡ length t) (ys : List ℕ) where
     pub put-whole : ys ≡ overIf t (lentRest z b) → TypePut w x z (withRest z b ys) (length t + 1)
-    unfolding typeBytes
+    unfolding typeWithLength
     put-whole q = record {
       fits = l;
       wrote = λ Γ h k m.
@@ -96,7 +96,7 @@ module _ (w : List ℕ) (x at : ℕ) (z xs : List ℕ) (p : Reached w x at z xs)
     wrote = λ Γ h k m.
         let (e, f) = p .wrote Γ (omega arith) k (omega (arith, more-length Γ x)) in
         let (g, j) = q .wrote Γ (omega arith) k (omega (arith, more-length Γ x, part-size, e)) in
-        (omega (arith, e, g, more-length Γ x), over-lent (typesBytes (typesTo Γ x)) (typeBytes (Γ x)) z xs ys at e f j ∙ ap (λ (l : List ℕ). over l z) (sym (types-more Γ x)));
+        (omega (arith, e, g, more-length Γ x), over-lent (typesBytes (typesTo Γ x)) (typeWithLength (Γ x)) z xs ys at e f j ∙ ap (λ (l : List ℕ). over l z) (sym (types-more Γ x)));
   }
 
 pub reached-all : (w : List ℕ) (x n at : ℕ) (z o : List ℕ) → x ≤ n → n ≤ x → Reached w x at z o → TypesPut w n z o

@@ -8,7 +8,7 @@ use Rattle.buffers.specs.Over.{over}
 use Rattle.calculus.specs.Figure2.{Env}
 use Rattle.calculus.specs.Version1.{signature1}
 use Rattle.slots.specs.Slots.{Holds}
-use Rattle.decoded_list.specs.Bytes.{typesTo, typeBytes, typesBytes}
+use Rattle.decoded_list.specs.Bytes.{typesTo, typeWithLength, typesBytes}
 
 -- r is the type of slot x
 pub record TypeIs (w : List ℕ) (x : ℕ) (r : List ℕ) : Type 0 where
@@ -23,7 +23,7 @@ pub record SizeIs (w : List ℕ) (n r : ℕ) : Type 0 where
 -- the type of slot x was written, r bytes
 pub record TypePut (w : List ℕ) (x : ℕ) (z o : List ℕ) (r : ℕ) : Type 0 where
   pub fits : r ≤ length z
-  pub wrote : (Γ : Env signature1) → x < 96 → Holds w Γ → length (typeBytes (Γ x)) ≤ length z → (r ≡ length (typeBytes (Γ x))) × (o ≡ over (typeBytes (Γ x)) z)
+  pub wrote : (Γ : Env signature1) → x < 96 → Holds w Γ → length (typeWithLength (Γ x)) ≤ length z → (r ≡ length (typeWithLength (Γ x))) × (o ≡ over (typeWithLength (Γ x)) z)
 
 -- the first n types were written, where they fit
 pub record TypesPut (w : List ℕ) (n : ℕ) (z o : List ℕ) : Type 0 where

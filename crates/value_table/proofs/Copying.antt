@@ -4,7 +4,7 @@ use mathlib.Core.List.{List}
 use Prim.Native.Nat.{ℕ, zero, suc, _+_, _*_, _-_, _<_, _≤_}
 use native.Mathlib.Omega.{arith}
 use lib.ListN.{length, take, drop, length-drop}
-use lib.Seq.{drop-cons, length-take-le}
+use lib.Seq.{length-take-le}
 use Rattle.base.specs.Bytes.{byte}
 use Rattle.codes.specs.Rows.{fields, fieldBytes, width}
 use Rattle.answers.specs.Ladder.{least}
@@ -14,22 +14,16 @@ use Rattle.buffers.proofs.OverLaws.{over-fits}
 use Rattle.entries.specs.Fields.{placeOf, code, field}
 use Rattle.entries.specs.Tiling.{listed, joined, stretch, numberBytes, entryOf, entryBytes}
 use Rattle.entries.specs.Words.{Bytes}
-use Rattle.entries.proofs.Tiling.{entry-bytes}
+use Rattle.entries.proofs.Tiling.{stretch-part, joined-all, entry-bytes}
 use Rattle.trace.specs.Layout.{values}
 use Rattle.trace.specs.Faults.{traceRungs}
-use Rattle.trace.proofs.Passed.{trace-passes, tag-known}
+use Rattle.trace.proofs.EntryTests.{tag-known}
+use Rattle.trace.proofs.Passes.{trace-passes}
 use Rattle.decoded.specs.Table.{twoCode}
 use Rattle.decoded.specs.Values.{valueOf, valueAt, valuesOf}
-use Rattle.decoded.proofs.Tiling.{joined-all}
 use Rattle.decoded.proofs.ValueLaws.{values-length}
 use Rattle.value_table.specs.Values.{fiveBytes, valueBytes}
 use Rattle.value_table.specs.Kept.{Copied}
-
--- a stretch inside a list is a part of it
-stretch-part : (s : List ℕ) (n p : ℕ) → p + n ≤ length s → stretch s p n ≡ take n (drop p s)
-unfolding listed byte
-stretch-part s zero p h = refl
-stretch-part s (suc n) p h = rw (drop-cons s p 0 (omega arith), stretch-part s n (suc p) (omega arith))
 
 -- a value of a known tag, written
 known-written : (t a b : ℕ) → t < 3 → valueBytes (valueOf t a b) ≡ fiveBytes t a b
@@ -53,13 +47,13 @@ value-stretch s h i l = known-written (code s 3 10 i) _ _ l ∙ entry-written s 
 -- the bytes of a checked trace's values
 values-bytes : (tr : List ℕ) → Bytes tr → least (traceRungs tr) ≡ Pass → joined valueBytes (valuesOf tr) ≡ take (5 * values tr) (drop 10 tr)
 values-bytes tr b e =
-    let c = trace-passes tr e in
+    let c = trace-passes tr .0 e in
     let z : values tr * 5 ≡ 5 * values tr = omega arith in
-    joined-all valueBytes (valueAt tr) tr 10 5 (values tr) (λ i h. value-stretch tr b i (tag-known (c .sound .each-value i h)))
-    ∙ ap (stretch tr 10) z ∙ stretch-part tr (5 * values tr) 10 (let l = c .framed .whole-length in omega arith)
+    joined-all valueBytes (valueAt tr) tr 10 5 (values tr) (λ i h. value-stretch tr b i (tag-known (c .values-right .each-value i h)))
+    ∙ ap (stretch tr 10) z ∙ stretch-part tr 10 (5 * values tr) (let l = c .framed .whole-length in omega arith)
 
 pub copied-not : (tr z o : List ℕ) → length tr < 10 + 5 * values tr → Copied tr z o
-copied-not tr z o h = record { copied = λ e r. let l = trace-passes tr e .framed .whole-length in absurd (omega arith) }
+copied-not tr z o h = record { copied = λ e r. let l = trace-passes tr .0 e .framed .whole-length in absurd (omega arith) }
 
 pub copied-all : (tr z o : List ℕ) (end : ℕ) → Bytes tr → end ≡ 10 + 5 * values tr → end ≤ length tr → o ≡ overIf (take (end - 10) (drop 10 tr)) z → Copied tr z o
 copied-all tr z o end b p h q = record {

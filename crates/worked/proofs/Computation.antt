@@ -40,7 +40,7 @@ use Rattle.running.specs.Processes.{look, eval, runProcess}
 use Rattle.running.specs.Demand3.{bindAll}
 use Rattle.decoded.specs.Table.{sortOf, entryOf, actOf, sortAt, termAt, stepAt, twoCode}
 use Rattle.decoded.specs.Values.{valueOf, valueAt}
-use Rattle.decoded_list.specs.Bytes.{twoOp, halfOp, statementBytes, typeBytes, headerBytes, listBytes}
+use Rattle.decoded_list.specs.Bytes.{twoOp, halfOp, statementBytes, typeWithLength, headerBytes, listBytes}
 use Rattle.decoded_list.specs.Statements.{statementOf, statementAt}
 use Rattle.value_table.specs.Values.{fiveBytes, valueBytes}
 use Rattle.run_parts.specs.Messages.{directionNumber, messageBytes}
@@ -50,5 +50,5 @@ use Rattle.worked.proofs.Computed.{inferred, checked, typingOf, expecte
 use Rattle.worked.specs.Marked.{examples}
 
 pub examples-computed : map computed examples ≡ map expected examples
-unfolding decide Option·elim bind ℕ-discrete byte word walk first some mark header rows cell fields fieldBytes width known atomKinds typeParts typeKnown answered least number placeOf code field role fieldOk fieldsOk entryOk sameEntry nodeOk alone listed joined marked countsOk lengthOk symbolOk sortOk stepInRange stepOk partAt hasPart useAt usesTerm named isBinder binds binder again twice bindsNew fieldLatest latest fieldInScope inScope typeAt list-countsOk list-lengthOk wants typeOkAt typeOk gives given statementOkAt statementOk index indexOk trace-countsOk trace-lengthOk within under lowerOf encoded meet parent1 depth1 code1 mapBuild built mapAct operands binders bound isIn entryTree treesFrom missing pick extend allowed calculus-mark calculus-wants needs spread down byEntry push pushAll needsAt needsOf atStep typing found before inferBy atomType1 rendering-binds duesOf dues sameSome sameOption meantBy says fits findFrom taken turn atEnd onTurn judgeFrom judge registerOf isBuilt parts buildEach buildEntry buildTerm stated translateFrom basicShape pairShape cipherShape visible pairParts turns openShape treeShape entryShape numberOf onLogged passes splitting opening perform andThen inRegisters execute run placeFrom placed made look eval runProcess bindAll sortOf entryOf actOf sortAt termAt stepAt twoCode valueOf valueAt twoOp halfOp statementBytes typeBytes headerBytes listBytes statementOf statementAt fiveBytes valueBytes directionNumber messageBytes traceOf runOf verdictCheck inferred checked typingOf expected fileOutcome listOutcome judgeOutcome startsOk ranOf resultOutcome runOutcome computed
+unfolding decide Option·elim bind ℕ-discrete byte word walk first some mark header rows cell fields fieldBytes width known atomKinds typeParts typeKnown answered least number placeOf code field role fieldOk fieldsOk entryOk sameEntry nodeOk alone listed joined marked countsOk lengthOk symbolOk sortOk stepInRange stepOk partAt hasPart useAt usesTerm named isBinder binds binder again twice bindsNew fieldLatest latest fieldInScope inScope typeAt list-countsOk list-lengthOk wants typeOkAt typeOk gives given statementOkAt statementOk index indexOk trace-countsOk trace-lengthOk within under lowerOf encoded meet parent1 depth1 code1 mapBuild built mapAct operands binders bound isIn entryTree treesFrom missing pick extend allowed calculus-mark calculus-wants needs spread down byEntry push pushAll needsAt needsOf atStep typing found before inferBy atomType1 rendering-binds duesOf dues sameSome sameOption meantBy says fits findFrom taken turn atEnd onTurn judgeFrom judge registerOf isBuilt parts buildEach buildEntry buildTerm stated translateFrom basicShape pairShape cipherShape visible pairParts turns openShape treeShape entryShape numberOf onLogged passes splitting opening perform andThen inRegisters execute run placeFrom placed made look eval runProcess bindAll sortOf entryOf actOf sortAt termAt stepAt twoCode valueOf valueAt twoOp halfOp statementBytes typeWithLength headerBytes listBytes statementOf statementAt fiveBytes valueBytes directionNumber messageBytes traceOf runOf verdictCheck inferred checked typingOf expected fileOutcome listOutcome judgeOutcome startsOk ranOf resultOutcome runOutcome computed
 examples-computed = refl

@@ -13,12 +13,6 @@ use native.Mathlib.Omega.{arith}
 use mathlib.Core.Path.{_≡_, refl, sym, _∙_}
 use Rattle.filing.proofs.check_filed.Statement.{statement}
 use Rattle.filing.proofs.check_filed.Tie as tie
-use Rattle.filing.proofs.check_filed.Reads as reads
-use Rattle.filing.proofs.check_filed.Lts as lts
-use Rattle.answers.proofs.refuse.Reads as refuse-reads
-use Rattle.entries.proofs.check_twins.Reads as check-twins-reads
-use Rattle.filing.proofs.key_at.Reads as key-at-reads
-use Rattle.filing.proofs.way_of.Reads as way-of-reads
 
 abbrev Inv-loop : tie.InvT-loop
 Inv-loop s kind file base slots₀ count i₀ slots i = (i ≤ count) × (length slots ≡ length slots₀) × (first (alone s kind base) 0 count ≡ first (alone s kind base) i count) × Filed s kind base slots i
@@ -26,88 +20,69 @@ Inv-loop s kind file base slots₀ count i₀ slots i = (i ≤ count) × (length
 abbrev μ-loop : tie.MeasureT-loop
 μ-loop s kind file base slots₀ count i₀ slots i = count - i
 
--- src/lib.rt:243:5
 loop-holds : tie.Need-loop-holds Inv-loop μ-loop
 loop-holds c =
     let a = c .before .before .args in
     (search needs, refl, refl, filed-none (a .s .now) (a .kind) (a .base) (a .slots .now) (c .before .before .pre))
 
--- src/lib.rt:244:48
 key-at-requires : tie.Need-key-at-requires Inv-loop μ-loop
 key-at-requires c κs = search needs
 
--- src/lib.rt:244:13
 way-of-requires : tie.Need-way-of-requires Inv-loop μ-loop
 way-of-requires c κs = search needs
 
--- src/lib.rt:246:23
 enum-known-way : tie.Need-enum-known-way Inv-loop μ-loop
 enum-known-way c = search needs
 
--- src/lib.rt:246:46
 add-slots : tie.Need-add-slots Inv-loop μ-loop
 add-slots c = search needs
 
--- src/lib.rt:246:32
 mul-slots : tie.Need-mul-slots Inv-loop μ-loop
 mul-slots c =
     let a = c .before .before .before .before .before .before .before .before .before .before .args in
     omega (arith, filed-room (a .s .now) (a .kind) (a .base) (c .before .before .before .before .before .before .before .loop .slots) (c .before .before .before .before .key-at .result) _ (sym (c .before .before .before .way-of .ensures) ∙ c .before .way .given .1))
 
--- src/lib.rt:246:32
 slice-write-slots : tie.Need-slice-write-slots Inv-loop μ-loop
 slice-write-slots c =
     let a = c .before .before .before .before .before .before .before .before .before .before .args in
     filed-room (a .s .now) (a .kind) (a .base) (c .before .before .before .before .before .before .before .loop .slots) (c .before .before .before .before .key-at .result) _ (sym (c .before .before .before .way-of .ensures) ∙ c .before .way .given .1)
 
--- src/lib.rt:247:58
 enum-told : tie.Need-enum-told Inv-loop μ-loop
 enum-told c = search needs
 
--- src/lib.rt:247:58
 cast-refuse : tie.Need-cast-refuse Inv-loop μ-loop
 cast-refuse c = search needs
 
--- src/lib.rt:247:26
 refuse-requires : tie.Need-refuse-requires Inv-loop μ-loop
 refuse-requires c κs = search needs
 
--- src/lib.rt:247:26
 same-length : tie.Need-same-length Inv-loop μ-loop
 same-length c = c .before .before .before .before .before .before .before .loop .inv .1
 
--- src/lib.rt:247:26
 returns : tie.Need-returns Inv-loop μ-loop
 returns c =
     let a = c .before .before .before .before .before .before .before .before .before .before .args in
     let l = c .before .before .before .before .before .before .before .loop in
     c .refuse .ensures ∙ rung-found (twinRung (a .s .now) (a .kind) (a .file) (a .base) (a .count)) (l .i) _ (l .inv .2) (c .before .before .before .before .before .before .loop-test .taken) (filed-equal (a .s .now) (a .kind) (a .base) (l .slots) (l .i) (slice-bytes (a .s .now) (c .before .before .before .before .before .before .before .before .before .shared-slice-known .given)) (l .inv .3) (rw (c .before .before .before .before .key-at .ensures) at (sym (c .before .before .before .way-of .ensures) ∙ c .before .enum-told .given .1))) refl
 
--- src/lib.rt:248:26
 enum-told-2 : tie.Need-enum-told-2 Inv-loop μ-loop
 enum-told-2 c = search needs
 
--- src/lib.rt:248:26
 check-twins-requires : tie.Need-check-twins-requires Inv-loop μ-loop
 check-twins-requires c κs = search needs
 
--- src/lib.rt:248:26
 same-length-2 : tie.Need-same-length-2 Inv-loop μ-loop
 same-length-2 c = c .before .before .before .before .before .before .before .loop .inv .1
 
--- src/lib.rt:248:26
 returns-2 : tie.Need-returns-2 Inv-loop μ-loop
 returns-2 c = c .check-twins .ensures
 
--- src/lib.rt:250:9
 add-i : tie.Need-add-i Inv-loop μ-loop
 add-i c = search needs
 
--- src/lib.rt:243:5
 loop-less : tie.Need-loop-less Inv-loop μ-loop
 loop-less c = search needs
 
--- src/lib.rt:243:5
 loop-again : tie.Need-loop-again Inv-loop μ-loop
 loop-again c =
     let a = c .before .before .before .before .before .before .before .before .before .before .args in
@@ -115,11 +90,9 @@ loop-again c =
     let e = rw (c .before .before .before .before .key-at .ensures) at (sym (c .before .before .before .way-of .ensures) ∙ c .before .way .given .1) in
     (omega arith, simp length-set (l .inv .1), l .inv .2 ∙ first-right (alone (a .s .now) (a .kind) (a .base)) (l .i) (a .count) (c .before .before .before .before .before .before .loop-test .taken) (filed-alone (a .s .now) (a .kind) (a .base) (l .slots) (l .i) _ (l .inv .3) e), filed-more (a .s .now) (a .kind) (a .base) (l .slots) (l .i) _ (l .inv .3) e)
 
--- src/lib.rt:238:1
 same-length-3 : tie.Need-same-length-3 Inv-loop μ-loop
 same-length-3 c = c .before .loop .inv .1
 
--- src/lib.rt:238:1
 returns-3 : tie.Need-returns-3 Inv-loop μ-loop
 returns-3 c =
     let a = c .before .before .before .before .args in

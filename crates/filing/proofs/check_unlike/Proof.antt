@@ -3,19 +3,13 @@ use borrow.Author.Needs.{needs}
 use Rattle.filing.proofs.Filing.{all-free}
 use Rattle.filing.proofs.check_unlike.Statement.{statement}
 use Rattle.filing.proofs.check_unlike.Tie as tie
-use Rattle.filing.proofs.check_unlike.Reads as reads
-use Rattle.filing.proofs.check_unlike.Lts as lts
-use Rattle.filing.proofs.check_filed.Reads as check-filed-reads
 
--- src/lib.rt:260:38
 slice-aggregate-check-filed : tie.Need-slice-aggregate-check-filed
 slice-aggregate-check-filed c = search needs
 
--- src/lib.rt:260:5
 check-filed-requires : tie.Need-check-filed-requires
 check-filed-requires c κs = all-free 3069
 
--- src/lib.rt:256:1
 returns : tie.Need-returns
 returns c = c .before .check-filed .ensures
 

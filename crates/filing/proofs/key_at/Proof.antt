@@ -5,51 +5,38 @@ use native.Mathlib.Omega.{arith}
 use borrow.Author.Needs.{needs}
 use Rattle.filing.proofs.key_at.Statement.{statement}
 use Rattle.filing.proofs.key_at.Tie as tie
-use Rattle.filing.proofs.key_at.Reads as reads
-use Rattle.filing.proofs.key_at.Lts as lts
-use Rattle.entries.proofs.code_at.Reads as code-at-reads
-use Rattle.entries.proofs.field_at.Reads as field-at-reads
 
--- src/lib.rt:193:9
 code-at-requires : tie.Need-code-at-requires
 code-at-requires c κs = search needs
 
--- src/lib.rt:194:9
 field-at-requires : tie.Need-field-at-requires
 field-at-requires c κs = search needs
 
--- src/lib.rt:195:9
 field-at-requires-2 : tie.Need-field-at-requires-2
 field-at-requires-2 c κs = search needs
 
--- src/lib.rt:196:5
 cast-result : tie.Need-cast-result
 cast-result c = search needs
 
--- src/lib.rt:196:5
 mul-result : tie.Need-mul-result
 mul-result c = search needs
 
--- src/lib.rt:196:30
 mul-result-2 : tie.Need-mul-result-2
 mul-result-2 c =
     let a = c .before .before .before .before .args in
     omega (arith, c .before .field-at .ensures, field-small (a .s .now) (a .kind) (a .base) (a .i) 0 (slice-bytes (a .s .now) (c .before .before .before .shared-slice-known .given)))
 
--- src/lib.rt:196:5
 add-result : tie.Need-add-result
 add-result c =
     let a = c .before .before .before .before .args in
     omega (arith, c .before .field-at .ensures, field-small (a .s .now) (a .kind) (a .base) (a .i) 0 (slice-bytes (a .s .now) (c .before .before .before .shared-slice-known .given)))
 
--- src/lib.rt:196:5
 add-result-2 : tie.Need-add-result-2
 add-result-2 c =
     let a = c .before .before .before .before .args in
     let b = slice-bytes (a .s .now) (c .before .before .before .shared-slice-known .given) in
     omega (arith, c .before .field-at .ensures, c .field-at2 .ensures, field-small (a .s .now) (a .kind) (a .base) (a .i) 0 b, field-small (a .s .now) (a .kind) (a .base) (a .i) 1 b)
 
--- src/lib.rt:190:1
 returns : tie.Need-returns
 unfolding keyOf
 returns c = rw (c .before .before .code-at .ensures, c .before .field-at .ensures, c .field-at2 .ensures)

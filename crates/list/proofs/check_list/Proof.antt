@@ -1,4 +1,4 @@
--- `check_list` meets its contract. Assumes nothing.
+-- `list::check_list` meets its contract. Assumes nothing.
 use Rattle.answers.proofs.Layers.{layer-stops, layer-passes}
 use Rattle.list.specs.Faults.{typeRungs, statementRung}
 use mathlib.Core.List.{[], _∷_}

@@ -1,4 +1,4 @@
--- `check_types` meets its contract. Assumes nothing.
+-- `list::check_types` meets its contract. Assumes nothing.
 use Rattle.answers.proofs.Layers.{layer-stops, layer-passes}
 use Rattle.list.specs.Faults.{frameRungs, typeRung}
 use mathlib.Core.List.{[], _∷_}

@@ -1,4 +1,4 @@
--- `counts_ok` meets its contract. Assumes nothing.
+-- `list::counts_ok` meets its contract. Assumes nothing.
 use borrow.Author.Tests.{le-leb, lt-leb}
 use Rattle.list.specs.Layout.{countsOk}
 use borrow.Author.Needs.{needs}

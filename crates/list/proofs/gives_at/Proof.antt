@@ -1,4 +1,4 @@
--- `gives_at` meets its contract. Assumes nothing.
+-- `list::gives_at` meets its contract. Assumes nothing.
 use Rattle.list.specs.Layout.{gives}
 use mathlib.Core.Path.{_∙_}
 use borrow.Author.Needs.{needs}

@@ -1,4 +1,4 @@
--- `is_type` meets its contract. The loop has come to byte k: what is wanted of the rest says what one type wants of all, and at most k + 1 are wanted. Assumes nothing.
+-- `list::is_type` meets its contract. The loop has come to byte k: what is wanted of the rest says what one type wants of all, and at most k + 1 are wanted. Assumes nothing.
 use borrow.Author.Needs.{needs}
 use native.Mathlib.Omega.{arith}
 use borrow.Author.Tests.{not-true, not-false}

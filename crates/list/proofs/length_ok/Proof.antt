@@ -1,4 +1,4 @@
--- `length_ok` meets its contract. Assumes nothing.
+-- `list::length_ok` meets its contract. Assumes nothing.
 use Rattle.list.specs.Layout.{lengthOk}
 use borrow.Author.Needs.{needs}
 use Rattle.list.proofs.length_ok.Statement.{statement}

@@ -1,4 +1,4 @@
--- `statement_count` meets its contract. Assumes nothing.
+-- `list::statement_count` meets its contract. Assumes nothing.
 use Rattle.base.specs.Bytes.{word}
 use borrow.Author.Needs.{needs}
 use Rattle.list.proofs.statement_count.Statement.{statement}

@@ -1,4 +1,4 @@
--- `statement_ok` meets its contract. Assumes nothing.
+-- `list::statement_ok` meets its contract. Assumes nothing.
 use Rattle.list.specs.Layout.{statementOkAt}
 use mathlib.Core.Path.{_∙_}
 use borrow.Author.Needs.{needs}

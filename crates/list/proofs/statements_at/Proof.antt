@@ -1,4 +1,4 @@
--- `statements_at` meets its contract. Assumes nothing.
+-- `list::statements_at` meets its contract. Assumes nothing.
 use mathlib.Core.Path.{_∙_}
 use borrow.Author.Needs.{needs}
 use Rattle.list.proofs.statements_at.Statement.{statement}

@@ -1,4 +1,4 @@
--- `type_at` meets its contract. The loop has come to type k: the place is that of type k, and at most 256 bytes a type past the header. Assumes nothing.
+-- `list::type_at` meets its contract. The loop has come to type k: the place is that of type k, and at most 256 bytes a type past the header. Assumes nothing.
 use borrow.Author.Needs.{needs}
 use native.Mathlib.Omega.{arith}
 use Rattle.list.proofs.Walks.{type-at-first, type-at-more}

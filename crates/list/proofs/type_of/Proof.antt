@@ -1,4 +1,4 @@
--- `type_of` meets its contract. Assumes nothing.
+-- `list::type_of` meets its contract. Assumes nothing.
 use Rattle.list.proofs.Parts.{part-inside, part-bytes, part-none}
 use Prim.Native.Nat.{_+_, _-_}
 use native.Mathlib.Omega.{arith}

@@ -1,4 +1,4 @@
--- `type_ok` meets its contract. Assumes nothing.
+-- `list::type_ok` meets its contract. Assumes nothing.
 use Rattle.list.proofs.Parts.{type-there, type-past}
 use mathlib.Core.Path.{_∙_}
 use borrow.Author.Needs.{needs}

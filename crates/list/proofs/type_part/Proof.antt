@@ -1,4 +1,4 @@
--- `type_part` meets its contract. Assumes nothing.
+-- `list::type_part` meets its contract. Assumes nothing.
 use Rattle.list.proofs.Parts.{part-refused, part-past, part-here}
 use borrow.Author.Needs.{needs}
 use Rattle.list.proofs.type_part.Statement.{statement}

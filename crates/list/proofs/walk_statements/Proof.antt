@@ -1,4 +1,4 @@
--- `walk_statements` meets its contract. The loop has come to statement i, all statements before it are in order, and the registers given before it are counted. Assumes nothing.
+-- `list::walk_statements` meets its contract. The loop has come to statement i, all statements before it are in order, and the registers given before it are counted. Assumes nothing.
 use borrow.Author.Needs.{needs}
 use native.Mathlib.Omega.{arith}
 use Rattle.answers.proofs.Ladder.{rung-found, rung-clean}

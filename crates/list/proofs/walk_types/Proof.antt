@@ -1,4 +1,4 @@
--- `walk_types` meets its contract. The loop has come to type i, all types before it are in order, and the place is that of type i. Assumes nothing.
+-- `list::walk_types` meets its contract. The loop has come to type i, all types before it are in order, and the place is that of type i. Assumes nothing.
 use borrow.Author.Needs.{needs}
 use native.Mathlib.Omega.{arith}
 use Rattle.answers.proofs.Ladder.{rung-found, rung-clean}

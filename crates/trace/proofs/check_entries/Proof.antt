@@ -6,43 +6,30 @@ use mathlib.Core.Path.{_∙_}
 use borrow.Author.Needs.{needs}
 use Rattle.trace.proofs.check_entries.Statement.{statement}
 use Rattle.trace.proofs.check_entries.Tie as tie
-use Rattle.trace.proofs.check_entries.Reads as reads
-use Rattle.trace.proofs.check_entries.Lts as lts
-use Rattle.base.proofs.word_at.Reads as word-at-reads
-use Rattle.entries.proofs.check_nodes.Reads as check-nodes-reads
-use Rattle.trace.proofs.check_held.Reads as check-held-reads
-use Rattle.trace.proofs.value_count.Reads as value-count-reads
 
--- src/lib.rt:169:65
 word-at-requires : tie.Need-word-at-requires
 word-at-requires c κs = search needs
 
--- src/lib.rt:169:100
 value-count-requires : tie.Need-value-count-requires
 value-count-requires c κs = search needs
 
--- src/lib.rt:169:9
 check-nodes-requires : tie.Need-check-nodes-requires
 check-nodes-requires c κs = search needs
 
 enum-told : tie.Need-enum-told
 enum-told c = search needs
 
--- src/lib.rt:171:9
 enum-told-2 : tie.Need-enum-told-2
 enum-told-2 c = search needs
 
--- src/lib.rt:171:9
 returns : tie.Need-returns
 returns c =
     let s = c .before .before .before .before .before .before .args .s .now in
     layer-stops (valueRung s ∷ []) (heldRungs s) (c .before .before .check-nodes .ensures ∙ rw (c .before .before .before .before .word-at .ensures, c .before .before .before .value-count .ensures)) (c .enum-told2 .given .1)
 
--- src/lib.rt:173:5
 check-held-requires : tie.Need-check-held-requires
 check-held-requires c κs = search needs
 
--- src/lib.rt:166:1
 returns-2 : tie.Need-returns-2
 returns-2 c =
     let s = c .before .before .before .before .before .before .before .args .s .now in

@@ -6,61 +6,42 @@ use mathlib.Core.Path.{_∙_}
 use borrow.Author.Needs.{needs}
 use Rattle.trace.proofs.check_held.Statement.{statement}
 use Rattle.trace.proofs.check_held.Tie as tie
-use Rattle.trace.proofs.check_held.Reads as reads
-use Rattle.trace.proofs.check_held.Lts as lts
-use Rattle.trace.proofs.check_indexes.Reads as check-indexes-reads
-use Rattle.trace.proofs.starting_count.Reads as starting-count-reads
-use Rattle.trace.proofs.starts_at.Reads as starts-at-reads
-use Rattle.trace.proofs.supplies_at.Reads as supplies-at-reads
-use Rattle.trace.proofs.supply_count.Reads as supply-count-reads
-use Rattle.trace.proofs.value_count.Reads as value-count-reads
 
--- src/lib.rt:157:9
 value-count-requires : tie.Need-value-count-requires
 value-count-requires c κs = search needs
 
--- src/lib.rt:158:44
 starts-at-requires : tie.Need-starts-at-requires
 starts-at-requires c κs = search needs
 
--- src/lib.rt:158:61
 starting-count-requires : tie.Need-starting-count-requires
 starting-count-requires c κs = search needs
 
--- src/lib.rt:158:61
 cast-check-indexes : tie.Need-cast-check-indexes
 cast-check-indexes c = search needs
 
--- src/lib.rt:158:9
 check-indexes-requires : tie.Need-check-indexes-requires
 check-indexes-requires c κs = search needs
 
 enum-told : tie.Need-enum-told
 enum-told c = search needs
 
--- src/lib.rt:160:9
 enum-told-2 : tie.Need-enum-told-2
 enum-told-2 c = search needs
 
--- src/lib.rt:160:9
 returns : tie.Need-returns
 returns c =
     let s = c .before .before .before .before .before .before .before .args .s .now in
     layer-stops (startRung s ∷ []) (supplyRung s ∷ []) (c .before .before .check-indexes .ensures ∙ rw (c .before .before .before .before .before .value-count .ensures, c .before .before .before .before .starts-at .ensures, c .before .before .before .starting-count .ensures)) (c .enum-told2 .given .1)
 
--- src/lib.rt:162:36
 supplies-at-requires : tie.Need-supplies-at-requires
 supplies-at-requires c κs = search needs
 
--- src/lib.rt:162:55
 supply-count-requires : tie.Need-supply-count-requires
 supply-count-requires c κs = search needs
 
--- src/lib.rt:162:5
 check-indexes-requires-2 : tie.Need-check-indexes-requires-2
 check-indexes-requires-2 c κs = search needs
 
--- src/lib.rt:154:1
 returns-2 : tie.Need-returns-2
 returns-2 c =
     let s = c .before .before .before .before .before .before .before .before .before .before .args .s .now in

@@ -11,11 +11,6 @@ use native.Mathlib.Omega.{arith}
 use mathlib.Core.Path.{_≡_, refl, _∙_}
 use Rattle.trace.proofs.check_indexes.Statement.{statement}
 use Rattle.trace.proofs.check_indexes.Tie as tie
-use Rattle.trace.proofs.check_indexes.Reads as reads
-use Rattle.trace.proofs.check_indexes.Lts as lts
-use Rattle.answers.proofs.refuse.Reads as refuse-reads
-use Rattle.trace.proofs.index_at.Reads as index-at-reads
-use Rattle.trace.proofs.index_place.Reads as index-place-reads
 
 abbrev Inv-loop : tie.InvT-loop
 Inv-loop s file base limit count i₀ i = (i ≤ count) × (first (indexOk s base limit) 0 count ≡ first (indexOk s base limit) i count)
@@ -23,43 +18,34 @@ Inv-loop s file base limit count i₀ i = (i ≤ count) × (first (indexOk s bas
 abbrev μ-loop : tie.MeasureT-loop
 μ-loop s file base limit count i₀ i = count - i
 
--- src/lib.rt:144:5
 loop-holds : tie.Need-loop-holds Inv-loop μ-loop
 loop-holds c = (search needs, refl)
 
--- src/lib.rt:145:30
 index-at-requires : tie.Need-index-at-requires Inv-loop μ-loop
 index-at-requires c κs = search needs
 
--- src/lib.rt:146:45
 index-place-requires : tie.Need-index-place-requires Inv-loop μ-loop
 index-place-requires c κs = search needs
 
--- src/lib.rt:146:13
 refuse-requires : tie.Need-refuse-requires Inv-loop μ-loop
 refuse-requires c κs = search needs
 
--- src/lib.rt:146:13
 returns : tie.Need-returns Inv-loop μ-loop
 unfolding indexOk
 returns c =
     let a = c .before .before .before .before .before .before .before .args in
     c .refuse .ensures ∙ rung-found (indexRung (a .s .now) (a .file) (a .base) (a .limit) (a .count)) _ _ (c .before .before .before .before .before .loop .inv .1) (c .before .before .before .before .loop-test .taken) (rw (← c .before .before .before .index-at .ensures) (le-ltb _ _ (c .before .before .if1 .taken))) (rw (c .before .index-place .ensures))
 
--- src/lib.rt:148:9
 add-i : tie.Need-add-i Inv-loop μ-loop
 add-i c = search needs
 
--- src/lib.rt:144:5
 loop-less : tie.Need-loop-less Inv-loop μ-loop
 loop-less c = search needs
 
--- src/lib.rt:144:5
 loop-again : tie.Need-loop-again Inv-loop μ-loop
 unfolding indexOk
 loop-again c = (omega arith, c .before .before .before .loop .inv .1 ∙ first-right _ _ _ (c .before .before .loop-test .taken) (rw (← c .before .index-at .ensures) (lt-ltb _ _ (c .if1 .left))))
 
--- src/lib.rt:140:1
 returns-2 : tie.Need-returns-2 Inv-loop μ-loop
 returns-2 c =
     let a = c .before .before .before .args in

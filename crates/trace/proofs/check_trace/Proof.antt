@@ -6,56 +6,41 @@ use Rattle.trace.specs.Faults.{frameRungs, entryRungs, equalRung, restRu
 use mathlib.Core.Path.{_∙_}
 use Rattle.trace.proofs.check_trace.Statement.{statement}
 use Rattle.trace.proofs.check_trace.Tie as tie
-use Rattle.trace.proofs.check_trace.Reads as reads
-use Rattle.trace.proofs.check_trace.Lts as lts
-use Rattle.trace.proofs.check_entries.Reads as check-entries-reads
-use Rattle.trace.proofs.check_frame.Reads as check-frame-reads
-use Rattle.filing.proofs.check_unlike.Reads as check-unlike-reads
-use Rattle.trace.proofs.value_count.Reads as value-count-reads
 
--- src/lib.rt:267:9
 check-frame-requires : tie.Need-check-frame-requires
 check-frame-requires c κs = search needs
 
 enum-told : tie.Need-enum-told
 enum-told c = search needs
 
--- src/lib.rt:269:9
 enum-told-2 : tie.Need-enum-told-2
 enum-told-2 c = search needs
 
--- src/lib.rt:269:9
 returns : tie.Need-returns
 returns c =
     let s = c .before .before .before .before .args .s .now in
     layer-stops (frameRungs s) (restRungs s) (c .before .before .check-frame .ensures) (c .enum-told2 .given .1)
 
--- src/lib.rt:271:9
 check-entries-requires : tie.Need-check-entries-requires
 check-entries-requires c κs = search needs
 
 enum-told-3 : tie.Need-enum-told-3
 enum-told-3 c = search needs
 
--- src/lib.rt:273:9
 enum-told-4 : tie.Need-enum-told-4
 enum-told-4 c = search needs
 
--- src/lib.rt:273:9
 returns-2 : tie.Need-returns-2
 returns-2 c =
     let s = c .before .before .before .before .before .before .before .args .s .now in
     layer-passes (frameRungs s) (restRungs s) (c .before .before .before .before .before .check-frame .ensures) (c .before .before .before .enum-told .given .1) (layer-stops (entryRungs s) (equalRung s ∷ []) (c .before .before .check-entries .ensures) (c .enum-told4 .given .1))
 
--- src/lib.rt:275:60
 value-count-requires : tie.Need-value-count-requires
 value-count-requires c κs = search needs
 
--- src/lib.rt:275:5
 check-unlike-requires : tie.Need-check-unlike-requires
 check-unlike-requires c κs = search needs
 
--- src/lib.rt:264:1
 returns-3 : tie.Need-returns-3
 returns-3 c =
     let s = c .before .before .before .before .before .before .before .before .before .args .s .now in

@@ -4,35 +4,24 @@ use borrow.Author.Tests.{le-leb, lt-leb}
 use borrow.Author.Needs.{needs}
 use Rattle.trace.proofs.counts_ok.Statement.{statement}
 use Rattle.trace.proofs.counts_ok.Tie as tie
-use Rattle.trace.proofs.counts_ok.Reads as reads
-use Rattle.trace.proofs.counts_ok.Lts as lts
-use Rattle.trace.proofs.starting_count.Reads as starting-count-reads
-use Rattle.trace.proofs.supply_count.Reads as supply-count-reads
-use Rattle.trace.proofs.value_count.Reads as value-count-reads
 
--- src/lib.rt:111:8
 value-count-requires : tie.Need-value-count-requires
 value-count-requires c κs = search needs
 
--- src/lib.rt:112:12
 supply-count-requires : tie.Need-supply-count-requires
 supply-count-requires c κs = search needs
 
--- src/lib.rt:113:20
 starting-count-requires : tie.Need-starting-count-requires
 starting-count-requires c κs = search needs
 
--- src/lib.rt:113:13
 returns : tie.Need-returns
 unfolding countsOk
 returns c = rw (← c .before .before .before .before .value-count .ensures, le-leb _ _ (c .before .before .before .if1 .taken), ← c .before .before .supply-count .ensures, le-leb _ _ (c .before .if2 .taken), ← c .starting-count .ensures)
 
--- src/lib.rt:108:1
 returns-2 : tie.Need-returns-2
 unfolding countsOk
 returns-2 c = rw (← c .before .before .before .value-count .ensures, le-leb _ _ (c .before .before .if1 .taken), ← c .before .supply-count .ensures, lt-leb _ _ (c .if2 .left))
 
--- src/lib.rt:108:1
 returns-3 : tie.Need-returns-3
 unfolding countsOk
 returns-3 c = rw (← c .before .value-count .ensures, lt-leb _ _ (c .if1 .left))

@@ -4,20 +4,13 @@ use mathlib.Core.Path.{_∙_}
 use borrow.Author.Needs.{needs}
 use Rattle.trace.proofs.index_at.Statement.{statement}
 use Rattle.trace.proofs.index_at.Tie as tie
-use Rattle.trace.proofs.index_at.Reads as reads
-use Rattle.trace.proofs.index_at.Lts as lts
-use Rattle.base.proofs.word_at.Reads as word-at-reads
-use Rattle.trace.proofs.index_place.Reads as index-place-reads
 
--- src/lib.rt:69:22
 index-place-requires : tie.Need-index-place-requires
 index-place-requires c κs = search needs
 
--- src/lib.rt:69:5
 word-at-requires : tie.Need-word-at-requires
 word-at-requires c κs = search needs
 
--- src/lib.rt:66:1
 returns : tie.Need-returns
 unfolding index
 returns c = c .word-at .ensures ∙ rw (c .before .index-place .ensures)

@@ -3,39 +3,28 @@ use Rattle.base.specs.Bytes.{word}
 use borrow.Author.Needs.{needs}
 use Rattle.trace.proofs.short_at.Statement.{statement}
 use Rattle.trace.proofs.short_at.Tie as tie
-use Rattle.trace.proofs.short_at.Reads as reads
-use Rattle.trace.proofs.short_at.Lts as lts
-use Rattle.base.proofs.byte_at.Reads as byte-at-reads
 
--- src/lib.rt:18:9
 byte-at-requires : tie.Need-byte-at-requires
 byte-at-requires c κs = search needs
 
--- src/lib.rt:19:32
 add-byte-at : tie.Need-add-byte-at
 add-byte-at c = search needs
 
--- src/lib.rt:19:9
 byte-at-requires-2 : tie.Need-byte-at-requires-2
 byte-at-requires-2 c κs = search needs
 
--- src/lib.rt:20:5
 cast-result : tie.Need-cast-result
 cast-result c = search needs
 
--- src/lib.rt:20:5
 mul-result : tie.Need-mul-result
 mul-result c = search needs
 
--- src/lib.rt:20:25
 cast-result-2 : tie.Need-cast-result-2
 cast-result-2 c = search needs
 
--- src/lib.rt:20:5
 add-result : tie.Need-add-result
 add-result c = search needs
 
--- src/lib.rt:15:1
 returns : tie.Need-returns
 unfolding word
 returns c = rw (c .before .byte-at .ensures, c .byte-at2 .ensures)

@@ -3,20 +3,13 @@ use mathlib.Core.Path.{_∙_}
 use borrow.Author.Needs.{needs}
 use Rattle.trace.proofs.supply_at.Statement.{statement}
 use Rattle.trace.proofs.supply_at.Tie as tie
-use Rattle.trace.proofs.supply_at.Reads as reads
-use Rattle.trace.proofs.supply_at.Lts as lts
-use Rattle.trace.proofs.index_at.Reads as index-at-reads
-use Rattle.trace.proofs.supplies_at.Reads as supplies-at-reads
 
--- src/lib.rt:83:17
 supplies-at-requires : tie.Need-supplies-at-requires
 supplies-at-requires c κs = search needs
 
--- src/lib.rt:83:5
 index-at-requires : tie.Need-index-at-requires
 index-at-requires c κs = search needs
 
--- src/lib.rt:80:1
 returns : tie.Need-returns
 returns c = c .index-at .ensures ∙ rw (c .before .supplies-at .ensures)
 

@@ -1,6 +1,6 @@
 -- `translate::write_statements` meets its contract. Assumes nothing.
 use Rattle.statement_counts.proofs.Ranged.{all-fits}
-use Rattle.translate.proofs.Writing.{bytes-length}
+use Rattle.decoded_list.proofs.FileLayout.{bytes-length}
 use Rattle.decoded_list.specs.Bytes.{statementsBytes}
 use Rattle.decoded.specs.Table.{tableOf}
 use Rattle.rendering.specs.Translation.{translation}
