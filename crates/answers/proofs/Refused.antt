@@ -14,7 +14,7 @@ use Rattle.base.specs.Pick.{both}
 use Rattle.base.specs.Search.{Search, clean, wrong, first}
 use Rattle.base.proofs.BothLaws.{clash}
 use Rattle.base.proofs.Searched.{Found, all-right, first-bad, found}
-use Rattle.answers.specs.Ladder.{Rung, answered, least}
+use Rattle.answers.specs.Ladder.{refusal, Rung, answered, least}
 use Rattle.answers.specs.declared.Refusal.{Refusal}
 use Rattle.answers.specs.declared.Check.{Check}
 use Rattle.answers.specs.declared.Check.the-variants.{Pass, Refuse}
@@ -31,7 +31,7 @@ pub record FirstBroken (r : Rung) (x : Refusal) : Type 0 where
   pub among : thing < r .count
   pub broken : r .ok thing ≡ false
   pub right-before : (k : ℕ) → k < thing → r .ok k ≡ true
-  pub named : x ≡ record { number = r .number; file = r .file; place = r .place thing }
+  pub named : x ≡ refusal (r .number) (r .file) (r .place thing)
 
 -- the first of rungs that lack the number does not refuse with it, and the others lack it too
 one-lacks : (n : ℕ) (r : Rung) (rs : List Rung) → T (noneNumbered n (r ∷ rs)) → ¬ (r .number ≡ n) × T (noneNumbered n rs)
@@ -42,8 +42,8 @@ one-lacks n r rs t = go (eqb (r .number) n) refl t
     go false e t = (λ q. clash (eq-eqb _ _ q) e, t)
 
 -- what a rung refuses has its number
-refused-number : (r : Rung) (i : ℕ) (x : Refusal) → _≡_ {A = Check} (Refuse (record { number = r .number; file = r .file; place = r .place i })) (Refuse x)
-    → x ≡ record { number = r .number; file = r .file; place = r .place i }
+refused-number : (r : Rung) (i : ℕ) (x : Refusal) → _≡_ {A = Check} (Refuse (refusal (r .number) (r .file) (r .place i))) (Refuse x)
+    → x ≡ refusal (r .number) (r .file) (r .place i)
 refused-number r i x e = cc
 
 -- rungs that lack a number do not refuse with it
@@ -55,7 +55,7 @@ none-refuses n (r ∷ rs) x t q e = go (first (r .ok) 0 (r .count)) e (λ h. non
     go : (s : Search) → answered r s (least rs) ≡ Refuse x → (least rs ≡ Refuse x → ⊥) → ⊥
     go clean e f = f (unfold answered in e)
     go (wrong i) e f =
-        let y : x ≡ record { number = r .number; file = r .file; place = r .place i } = refused-number r i x (unfold answered in e) in
+        let y : x ≡ refusal (r .number) (r .file) (r .place i) = refused-number r i x (unfold answered in e) in
         one-lacks n r rs t .0 (sym (ap (λ (x : Refusal). x .number) y) ∙ q)
 
 -- the rungs before that of the number pass, and its first thing out of order is the refusal's
@@ -74,7 +74,7 @@ refused-at (p ∷ xs) r ys x t q e = go (first (p .ok) 0 (p .count)) e (λ h. re
         → (answered p s (least xs) ≡ Pass) × FirstBroken r x
     go clean e f = let (a, b) = f (unfold answered in e) in ((unfold answered in a), b)
     go (wrong i) e f =
-        let y : x ≡ record { number = p .number; file = p .file; place = p .place i } = refused-number p i x (unfold answered in e) in
+        let y : x ≡ refusal (p .number) (p .file) (p .place i) = refused-number p i x (unfold answered in e) in
         absurd (one-lacks (r .number) p (xs ++ ys) t .0 (sym (ap (λ (x : Refusal). x .number) y) ∙ q))
 
 -- and the other way: where the rungs before it pass, the first thing out of order is refused

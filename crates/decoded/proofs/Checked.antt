@@ -6,6 +6,7 @@ use mathlib.Core.List.{List, _∷_}
 use Prim.Native.Nat.{ℕ, zero, suc, _+_, _≤_, _<_}
 use native.Mathlib.Omega.{arith}
 use lib.ListN.{length}
+use Rattle.base.proofs.BothLaws.{clash}
 use Rattle.answers.specs.Ladder.{least}
 use Rattle.answers.specs.declared.Check.the-variants.{Pass}
 use Rattle.table_layout.specs.Layout.{symbols, steps, sort}
@@ -20,7 +21,6 @@ use Rattle.calculus.proofs.TableLaws.{bound-map}
 use Rattle.entries.specs.Tiling.{listed}
 use Rattle.decoded.specs.Table.{sortOf as sortByte, sortAt, stepAt, tableOf}
 use Rattle.decoded.specs.Meaning.{Uses, Binds}
-use Rattle.decoded.proofs.Tests.{clash}
 use Rattle.decoded.proofs.Listed.{listed-in}
 use Rattle.decoded.proofs.Binding.{binds-new-means}
 use Rattle.decoded.proofs.Scoping.{in-scope-means}

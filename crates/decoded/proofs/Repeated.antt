@@ -8,7 +8,7 @@ use Prim.Native.Nat.{ℕ, _<_}
 use native.Mathlib.Omega.{arith}
 use lib.ListN.{length}
 use Rattle.base.proofs.BothLaws.{clash}
-use Rattle.answers.specs.Ladder.{Rung, least}
+use Rattle.answers.specs.Ladder.{Rung, refusal, least}
 use Rattle.answers.specs.declared.Refusal.{Refusal}
 use Rattle.answers.specs.declared.Check.the-variants.{Pass, Refuse}
 use Rattle.answers.proofs.Refused.{FirstBroken, refused-at, at-refused}
@@ -45,7 +45,7 @@ module _ {L : Type 0} (z : L) (es : List (Entry signature1 L)) (s : List ℕ) (k
 
   -- the refusal at index i
   abbrev six : ℕ → Refusal
-  six i = record { number = 6; file = file; place = i }
+  six i = refusal 6 file i
 
   -- the first that number 6 finds is the first equal to an earlier one
   broken-first : Told → (i : ℕ) → FirstBroken (twinRung s kind file base n) (six i) → (i < n) × FirstWith (EntryRepeated signature1 z es) i
@@ -95,9 +95,9 @@ terms-told s n i j h l = (
     as-bytes (a, b, c) = unfold termAt in rw (a, b, c)
 
 -- 6 with place i: 1 to 5 pass, and term i is the first that equals an earlier one
-pub six-means-term : (s : List ℕ) (i : ℕ) → (least (tableRungs s) ≡ Refuse (record { number = 6; file = 0; place = i }))
+pub six-means-term : (s : List ℕ) (i : ℕ) → (least (tableRungs s) ≡ Refuse (refusal 6 0 i))
     ↔ ((least (frameRungs s ++ entryRungs s) ≡ Pass) × (i < terms s) × FirstWith (TreeRepeated signature1 0 (tableOf s .entries)) i)
-six-means-term s i = (λ e. to (refused-at before twin after (record { number = 6; file = 0; place = i }) tt refl e), λ (p, h, w). from p h w)
+six-means-term s i = (λ e. to (refused-at before twin after (refusal 6 0 i) tt refl e), λ (p, h, w). from p h w)
   where
     before : List Rung
     before = frameRungs s ++ entryRungs s
@@ -108,14 +108,14 @@ six-means-term s i = (λ e. to (refused-at before twin after (record { number = 
     after : List Rung
     after = idleRung s ∷ bindRungs s
 
-    means : least before ≡ Pass → FirstBroken twin (record { number = 6; file = 0; place = i }) ↔ ((i < terms s) × FirstWith (TreeRepeated signature1 0 (tableOf s .entries)) i)
+    means : least before ≡ Pass → FirstBroken twin (refusal 6 0 i) ↔ ((i < terms s) × FirstWith (TreeRepeated signature1 0 (tableOf s .entries)) i)
     means p = let n = entered s p in six-means 0 (tableOf s .entries) s 0 0 (termsAt s) (terms s) (terms-told s n) (table-closed s n) (entries-length s) i
 
-    to : (least before ≡ Pass) × FirstBroken twin (record { number = 6; file = 0; place = i }) → (least before ≡ Pass) × (i < terms s) × FirstWith (TreeRepeated signature1 0 (tableOf s .entries)) i
+    to : (least before ≡ Pass) × FirstBroken twin (refusal 6 0 i) → (least before ≡ Pass) × (i < terms s) × FirstWith (TreeRepeated signature1 0 (tableOf s .entries)) i
     to (p, b) = let (h, w) = means p .0 b in (p, h, w)
 
-    from : least before ≡ Pass → i < terms s → FirstWith (TreeRepeated signature1 0 (tableOf s .entries)) i → least (tableRungs s) ≡ Refuse (record { number = 6; file = 0; place = i })
-    from p h w = at-refused before twin after (record { number = 6; file = 0; place = i }) p (means p .1 (h, w))
+    from : least before ≡ Pass → i < terms s → FirstWith (TreeRepeated signature1 0 (tableOf s .entries)) i → least (tableRungs s) ≡ Refuse (refusal 6 0 i)
+    from p h w = at-refused before twin after (refusal 6 0 i) p (means p .1 (h, w))
 
 -- ── Values ──
 
@@ -134,20 +134,20 @@ values-told s right i j h l = (
         parts-same s 3 10 i j a b c
 
 -- 6 with place i: 1 to 5 pass, and value i is the first that equals an earlier one
-pub six-means-value : (s : List ℕ) (i : ℕ) → (least (traceRungs s) ≡ Refuse (record { number = 6; file = 2; place = i }))
+pub six-means-value : (s : List ℕ) (i : ℕ) → (least (traceRungs s) ≡ Refuse (refusal 6 2 i))
     ↔ ((least (traceFrame s ++ traceEntries s) ≡ Pass) × (i < values s) × FirstWith (TreeRepeated signature1 noAtom (valuesOf s)) i)
-six-means-value s i = (λ e. to (refused-at before (equalRung s) [] (record { number = 6; file = 2; place = i }) tt refl e), λ (p, h, w). from p h w)
+six-means-value s i = (λ e. to (refused-at before (equalRung s) [] (refusal 6 2 i) tt refl e), λ (p, h, w). from p h w)
   where
     before : List Rung
     before = traceFrame s ++ traceEntries s
 
-    means : least before ≡ Pass → FirstBroken (equalRung s) (record { number = 6; file = 2; place = i }) ↔ ((i < values s) × FirstWith (TreeRepeated signature1 noAtom (valuesOf s)) i)
+    means : least before ≡ Pass → FirstBroken (equalRung s) (refusal 6 2 i) ↔ ((i < values s) × FirstWith (TreeRepeated signature1 noAtom (valuesOf s)) i)
     means p =
         let right = trace-entered s [] p .0 .each-right in
         six-means noAtom (valuesOf s) s 3 2 10 (values s) (values-told s right) (values-closed s (version s) right) (values-length s) i
 
-    to : (least before ≡ Pass) × FirstBroken (equalRung s) (record { number = 6; file = 2; place = i }) → (least before ≡ Pass) × (i < values s) × FirstWith (TreeRepeated signature1 noAtom (valuesOf s)) i
+    to : (least before ≡ Pass) × FirstBroken (equalRung s) (refusal 6 2 i) → (least before ≡ Pass) × (i < values s) × FirstWith (TreeRepeated signature1 noAtom (valuesOf s)) i
     to (p, b) = let (h, w) = means p .0 b in (p, h, w)
 
-    from : least before ≡ Pass → i < values s → FirstWith (TreeRepeated signature1 noAtom (valuesOf s)) i → least (traceRungs s) ≡ Refuse (record { number = 6; file = 2; place = i })
-    from p h w = at-refused before (equalRung s) [] (record { number = 6; file = 2; place = i }) p (means p .1 (h, w))
+    from : least before ≡ Pass → i < values s → FirstWith (TreeRepeated signature1 noAtom (valuesOf s)) i → least (traceRungs s) ≡ Refuse (refusal 6 2 i)
+    from p h w = at-refused before (equalRung s) [] (refusal 6 2 i) p (means p .1 (h, w))

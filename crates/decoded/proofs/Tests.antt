@@ -8,11 +8,7 @@ use native.Mathlib.Omega.{arith}
 use lib.Dec.{eqb}
 use borrow.Author.Tests.{eqb-true, eq-eqb}
 use Rattle.base.specs.Pick.{both, either}
-use Rattle.base.proofs.BothLaws.{both-left, both-right, both-true, clash as one-answer}
-
--- a test has one answer
-pub clash : {A : Type 0} {t : Bool} → t ≡ true → t ≡ false → A
-clash p q = one-answer p q
+use Rattle.base.proofs.BothLaws.{both-left, both-right, both-true}
 
 -- one of two holds
 pub either-cases : (a b : Bool) → either a b ≡ true → (a ≡ true) ⊎ (b ≡ true)

@@ -9,10 +9,11 @@ use native.Mathlib.Omega.{arith}
 use Rattle.types.specs.Forest.{Under, u-same}
 use Rattle.types.specs.Types.{Ty, Cipher, Pair, top, basic, cipher, pair}
 use Rattle.types.proofs.ForestLaws.{under-trans, under-decided}
-use Rattle.calculus.specs.Signature.{Two, Signature, SignatureLaws, pairing, seal}
+use Rattle.calculus.specs.Signature.{Signature, SignatureLaws, pairing, seal}
 use Rattle.calculus.specs.Terms.{atom, leaf, one, two, Term, Value, sameValue, build1, build2, mapBuild, built, Act, split, mapAct, binders, Step, Process, Statement}
-use Rattle.calculus.specs.Scope.{All, all-nil, all-cons, Lacks, la-symbol, la-one, la-two}
+use Rattle.calculus.specs.Scope.{All, all-nil, all-cons, Lacks}
 use Rattle.calculus.specs.Figure2.{_<:_ as Sub, _⊢_∶_ as Has, T-Var, T-Pair, T-ShKC, T-One, T-Sub}
+use Rattle.calculus.proofs.Inversion.{lacks-itself, lacks-part, lacks-left, lacks-right}
 use Rattle.calculus.specs.Typing.{Typed, P-Out, P-In, P-Restr, P-Match, P-PSplit, P-ShKD}
 use Rattle.rendering.proofs.ActLaws.{ActZip, zip-send, zip-receive, zip-fresh, zip-compare, zip-split, zip-decrypt}
 use Rattle.rendering.proofs.Base.{decided, decides, and-left, and-right, and-both}
@@ -72,23 +73,11 @@ module _ (𝓢 : Signature) (laws : SignatureLaws 𝓢) where
   visible-has (T-One {k = k} g) (st-one p) = under-decided (𝓢 .types .forest) (laws .falls) (𝓢 .result k) (𝓢 .result k) .1 u-same
   visible-has {v = v} (T-Sub g s) p = visible-sub s v (visible-has g p)
 
-  itself : {x : ℕ} → Lacks 𝓢 x (leaf x) → ⊥
-  itself (la-symbol n) = n refl
-
-  of-one : {x : ℕ} {k : 𝓢 .One} {M : Term 𝓢} → Lacks 𝓢 x (one k M) → Lacks 𝓢 x M
-  of-one (la-one l) = l
-
-  of-left : {x : ℕ} {k : Two (𝓢 .Seal)} {M N : Term 𝓢} → Lacks 𝓢 x (two k M N) → Lacks 𝓢 x M
-  of-left (la-two l r) = l
-
-  of-right : {x : ℕ} {k : Two (𝓢 .Seal)} {M N : Term 𝓢} → Lacks 𝓢 x (two k M N) → Lacks 𝓢 x N
-  of-right (la-two l r) = r
-
   stands-eval : (Γ : ℕ → T) (σ : Bindings 𝓢) (M : Term 𝓢) → ((x : ℕ) → ¬ Lacks 𝓢 x M → Fit Γ x (look 𝓢 σ x)) → Stands 𝓢 (Fit Γ) M (eval 𝓢 σ M)
   unfolding eval
-  stands-eval Γ σ (leaf x) f = st-leaf (f x itself)
-  stands-eval Γ σ (one k M) f = st-one (stands-eval Γ σ M (λ x n. f x (λ l. n (of-one l))))
-  stands-eval Γ σ (two k M N) f = st-two (stands-eval Γ σ M (λ x n. f x (λ l. n (of-left l)))) (stands-eval Γ σ N (λ x n. f x (λ l. n (of-right l))))
+  stands-eval Γ σ (leaf x) f = st-leaf (f x (lacks-itself 𝓢))
+  stands-eval Γ σ (one k M) f = st-one (stands-eval Γ σ M (λ x n. f x (λ l. n (lacks-part 𝓢 l))))
+  stands-eval Γ σ (two k M N) f = st-two (stands-eval Γ σ M (λ x n. f x (λ l. n (lacks-left 𝓢 l)))) (stands-eval Γ σ N (λ x n. f x (λ l. n (lacks-right 𝓢 l))))
 
   pub canonical-forms : CanonicalForms 𝓢
   canonical-forms Γ σ M A h f = visible-has h (stands-eval Γ σ M f)

@@ -1,7 +1,6 @@
 -- `lines::put_number` meets its contract. Assumes nothing.
 use Rattle.lines.proofs.LineLaws.{few-places}
 use native.Mathlib.Omega.{arith}
-use Prim.Native.Nat.{_-_}
 use borrow.Author.Needs.{needs}
 use Rattle.lines.proofs.put_number.Statement.{statement}
 use Rattle.lines.proofs.put_number.Tie as tie

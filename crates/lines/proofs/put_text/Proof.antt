@@ -1,6 +1,5 @@
 -- `lines::put_text` meets its contract. Assumes nothing.
 use Rattle.lines.proofs.LineLaws.{text-put}
-use Prim.Native.Nat.{_-_}
 use Rattle.lines.proofs.LineLaws.{text-put}
 use borrow.Author.Needs.{needs}
 use Rattle.lines.proofs.put_text.Statement.{statement}

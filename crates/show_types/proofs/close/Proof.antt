@@ -1,6 +1,6 @@
 -- `show_types::close` meets its contract. Assumes nothing.
 use borrow.Author.Needs.{needs}
-use Prim.Native.Nat.{_-_, _≤_}
+use Prim.Native.Nat.{_≤_}
 use Rattle.show_types.proofs.close.Statement.{statement}
 use Rattle.show_types.proofs.close.Tie as tie
 

@@ -5,7 +5,7 @@ use Rattle.translate.proofs.StepLaws.{binds-none, binds-one, binds-two}
 use Rattle.table_layout.specs.Layout.{stepField}
 use Rattle.rendering.specs.Judge.{Meaning, symbol}
 use lib.ListN.{length}
-use Prim.Native.Nat.{ℕ, _+_, _-_, _<_}
+use Prim.Native.Nat.{ℕ, _+_, _<_}
 use mathlib.Core.List.{List, [], _∷_, _++_}
 use mathlib.Core.Logic.{inl, inr}
 use native.Mathlib.Omega.{arith}

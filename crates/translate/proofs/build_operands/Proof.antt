@@ -5,7 +5,7 @@ use Rattle.translate.specs.Stepwise.{built, after, operandsBuilt}
 use Rattle.decoded.proofs.Tabled.{step-known}
 use Rattle.rendering.specs.Judge.{Meaning}
 use Rattle.table_layout.specs.Layout.{terms as termsOf}
-use Prim.Native.Nat.{_-_, _<_}
+use Prim.Native.Nat.{_<_}
 use mathlib.Core.List.{List}
 use mathlib.Core.Logic.{_⊎_, inl, inr}
 use native.Mathlib.Omega.{arith}

@@ -12,7 +12,7 @@ use Rattle.answers.specs.declared.Check.the-variants.{Pass}
 use Rattle.answers.specs.Ladder.{least}
 use lib.ListN.{length}
 use mathlib.Core.List.{List}
-use Prim.Native.Nat.{ℕ, _-_, _*_}
+use Prim.Native.Nat.{ℕ, _*_}
 use native.Mathlib.Omega.{arith}
 use mathlib.Core.Path.{_≡_, refl, sym, _∙_}
 use borrow.Author.Needs.{needs}

@@ -4,7 +4,7 @@ use Rattle.decoded.proofs.Tabled.{step-known}
 use Rattle.translate.specs.Stepwise.{operandsBuilt, stepMade}
 use Rattle.translate.specs.Making.{Ready, Done}
 use Rattle.rendering.specs.Judge.{Meaning}
-use Prim.Native.Nat.{ℕ, _+_, _-_, _*_, _≤_}
+use Prim.Native.Nat.{ℕ, _+_, _*_, _≤_}
 use mathlib.Core.List.{List}
 use lib.ListN.{length}
 use native.Mathlib.Omega.{arith}
