@@ -25,7 +25,8 @@ use Rattle.rendering.specs.Lists.{StatementList}
 use Rattle.list.specs.Layout.{symbols, statements, statementsAt, gives, given, statementOkAt, statementOk}
 use Rattle.list.specs.Faults.{typeRungs, statementRung, listRungs}
 use Rattle.list.specs.TypeOf.{hasType, typeBytes}
-use Rattle.list.proofs.Framed.{Framed, list-passes}
+use Rattle.list.specs.Right.{Framed}
+use Rattle.list.proofs.Framed.{list-passes}
 use Rattle.list.proofs.SymbolTypes.{type-ok-exact}
 use Rattle.decoded_list.specs.Bytes.{statementsBytes, headerBytes, listBytes}
 use Rattle.decoded_list.specs.Statements.{statementAt, statementsOf}

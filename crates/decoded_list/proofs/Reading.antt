@@ -21,7 +21,8 @@ use Rattle.types.specs.Version1.{T, bytes}
 use Rattle.list.specs.Layout.{symbols, statements, bodyAt, typeAt, statementsAt, given, statementOkAt, statementOk}
 use Rattle.list.specs.Faults.{listRungs}
 use Rattle.list.specs.Tiles.{tiled, typeEntry, statementEntry, written}
-use Rattle.list.proofs.Framed.{Framed, Listed, list-passes, frame-passes, type-inside}
+use Rattle.list.specs.Right.{Framed}
+use Rattle.list.proofs.Framed.{Listed, list-passes, frame-passes, type-inside}
 use Rattle.list.proofs.SymbolTypes.{type-ok-exact}
 use Rattle.list.proofs.Written.{list-written}
 use Rattle.decoded_list.specs.Bytes.{statementBytes, typeWithLength, headerBytes, listBytes}

@@ -6,28 +6,20 @@ use mathlib.Core.List.{List, [], _∷_}
 use Prim.Native.Nat.{ℕ, zero, suc, _+_, _*_, _≤_, _<_}
 use native.Mathlib.Omega.{arith}
 use lib.Dec.{leb}
-use lib.ListN.{length, drop, length-drop}
+use lib.ListN.{length, length-drop}
 use borrow.Author.Tests.{leb-true, eqb-true, le-leb, eq-eqb}
 use Rattle.answers.specs.Ladder.{least}
 use Rattle.answers.specs.declared.Check.the-variants.{Pass}
 use Rattle.answers.proofs.Ladder.{least-none, after-pass}
-use Rattle.opening.specs.Opening.{marked, version}
 use Rattle.opening.proofs.Frames.{frame-passed, frame-right}
 use Rattle.list.specs.Layout.{symbols, statements, pastType, typeAt, statementsAt, countsOk, lengthOk, typeOk, statementOk}
+use Rattle.list.specs.Right.{Framed, Walked}
 use Rattle.list.specs.Faults.{frameRungs, typeRung, typeRungs, statementRung, listRungs}
 use Rattle.list.proofs.Walks.{type-at-next, type-at-rises}
 use Rattle.answers.proofs.Passes.{layers-passed, first-passed, rung-passes}
 use Rattle.base.proofs.BothLaws.{both-parts}
 
--- the header is there with its mark, the version is 1, the counts are within their limits, and the length is exact
-pub record Framed (s : List ℕ) : Type 0 where
-  pub mark-right : marked 1 s ≡ true
-  pub version-one : version s ≡ 1
-  pub few-symbols : symbols s ≤ 96
-  pub few-statements : statements s ≤ 512
-  pub length-exact : length s ≡ statementsAt s + 4 * statements s
-
--- 1 to 4 pass exactly if that holds
+-- 1 to 4 pass exactly if the frame is right
 pub frame-passes : (s : List ℕ) → (least (frameRungs s) ≡ Pass) ↔ Framed s
 unfolding countsOk lengthOk
 frame-passes s = (λ e. to e, λ f. from f)
@@ -52,13 +44,7 @@ frame-passes s = (λ e. to e, λ f. from f)
 pub type-inside : (s : List ℕ) (i : ℕ) → length s ≡ statementsAt s + 4 * statements s → i < symbols s → pastType s (typeAt s i) ≤ length s
 type-inside s i e h = omega (arith, type-at-next s i, type-at-rises s (i + 1) (symbols s) (omega arith))
 
--- every length byte and the bytes that it counts lie inside the list, and the rest is exactly 4N bytes
-abbrev pub Walked : List ℕ → Type 0
-Walked s =
-    ((i : ℕ) → i < symbols s → (typeAt s i < length s) × (pastType s (typeAt s i) ≤ length s))
-    × (length (drop (statementsAt s) s) ≡ 4 * statements s)
-
--- that is what the length test says of a list with a whole header
+-- what the length test says of a list with a whole header
 pub length-ok-walked : (s : List ℕ) → 8 ≤ length s → (lengthOk s ≡ true) ↔ Walked s
 unfolding lengthOk typeAt
 length-ok-walked s h = (λ e. to (eqb-true (length s) (statementsAt s + 4 * statements s) e), λ w. eq-eqb (length s) (statementsAt s + 4 * statements s) (from w))

@@ -9,3 +9,4 @@ pub mod LeastFault
 pub mod SymbolTypes
 pub mod Written
 pub mod Operands
+pub mod Passes

@@ -20,7 +20,8 @@ use Rattle.list.specs.TypeOf.{passed, hasType, typeBytes, partOf}
 use Rattle.list.specs.declared.Part.the-variants.{At, Nothing}
 use Rattle.answers.proofs.Passes.{layers-passed, first-passed}
 use Rattle.base.proofs.BothLaws.{both-parts}
-use Rattle.list.proofs.Framed.{Framed, frame-passes, type-inside}
+use Rattle.list.specs.Right.{Framed}
+use Rattle.list.proofs.Framed.{frame-passes, type-inside}
 
 -- a type whose bytes are there is tested; one that runs past the end is not in order
 pub type-there : (s : List ℕ) (at e : ℕ) → e ≡ pastType s at → e ≤ length s → wants (version s) 1 (take (e - (at + 1)) (drop (at + 1) s)) ≡ typeOkAt s at

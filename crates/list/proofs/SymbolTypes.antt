@@ -26,7 +26,8 @@ use Rattle.list.specs.Faults.{frameRungs, typeRung, typeRungs}
 use Rattle.list.specs.TypeOf.{passed, hasType, typeBytes, FrameFault, MalformedType}
 use Rattle.answers.proofs.Passes.{layers-passed, first-passed, rung-passes}
 use Rattle.base.proofs.BothLaws.{clash, both-parts}
-use Rattle.list.proofs.Framed.{Framed, frame-passes, type-inside}
+use Rattle.list.specs.Right.{Framed}
+use Rattle.list.proofs.Framed.{frame-passes, type-inside}
 use Rattle.list.proofs.Parts.{has-type}
 use Rattle.list.proofs.TypesExact.{types-exact, type-once}
 use Rattle.list.proofs.LeastFault.{frame-least-fault}
