@@ -1,4 +1,0 @@
--- What the promises of `exports` speak of.
-pub mod Given
-pub mod Entries
-pub mod Served

@@ -1,0 +1,4 @@
+-- What the promises of `mirvashol` speak of.
+pub mod Given
+pub mod Entries
+pub mod Served
