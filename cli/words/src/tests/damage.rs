@@ -1,0 +1,146 @@
+//! Every function answers on any bytes, what the readers here find is what the proved library finds, and every refusal has words.
+
+use generate::{damage, lists, tables, traces, Damage, ListKind, Rng, TableKind, TraceKind};
+
+use crate::library;
+use crate::list::List;
+use crate::table::Table;
+use crate::tests::{example, run};
+use crate::trace::Trace;
+use crate::writing::LONGEST;
+
+/// No line has more than a handful of terms in it.
+fn bounded(words: &str) {
+    assert!(words.lines().all(|line| line.len() < 8 * LONGEST), "{words}");
+    assert!(words.is_empty() || words.ends_with('\n'));
+}
+
+/// Shows everything as everything, and asks for the words of every refusal that the library gives.
+fn all_answer(table: &[u8], list: &[u8], trace: &[u8]) {
+    for file in [table, list, trace] {
+        crate::kind(file);
+        bounded(&crate::table(file));
+        bounded(&crate::list(file, None));
+        bounded(&crate::list(file, Some(table)));
+        bounded(&crate::trace(file, None));
+        bounded(&crate::trace(file, Some(table)));
+        bounded(&crate::values(file));
+        bounded(&crate::log(file, None));
+        bounded(&crate::log(file, Some(trace)));
+        bounded(&crate::messages(file, trace));
+        crate::types(table, &[file.to_vec()]);
+        for place in [0, 1, 7, u64::MAX] {
+            for number in 0..17 {
+                bounded(&crate::refusal(number, number % 5, place, table, Some(list), Some(file)));
+            }
+            bounded(&crate::stopped(table, file, place as usize));
+        }
+    }
+    for (values, log) in [(0, 0), (7_680, 0), (7_680, 2_560)] {
+        let [number, file, place, ..] = run(table, list, trace, values, log);
+        if number != 0 {
+            let words = crate::refusal(number, file, place, table, Some(list), Some(trace));
+            assert!(!words.is_empty(), "refused {number} {file} {place}");
+        }
+    }
+    same_faults(table, list, trace);
+}
+
+/// The readers' faults 1 to 5 are the library's.
+fn same_faults(table: &[u8], list: &[u8], trace: &[u8]) {
+    let ours = |refusal: Option<library::Refusal>| refusal.filter(|r| r.number <= 5).map(|r| (r.number, r.place));
+    let read = Table::read(table);
+    assert_eq!(ours(library::types(table).err()), read.fault.as_ref().map(|fault| (fault.number, fault.place)));
+    let free = read.free().len();
+    let fault = List::read(list, Some(free)).fault;
+    assert_eq!(ours(library::list_refusal(list, free)), fault.map(|fault| (fault.number, fault.place)));
+    let fault = List::read(list, None).fault;
+    assert_eq!(ours(library::list_refusal(list, usize::MAX)), fault.map(|fault| (fault.number, fault.place)));
+    let fault = Trace::read(trace).fault;
+    assert_eq!(ours(library::trace_refusal(trace)), fault.map(|fault| (fault.number, fault.place)));
+}
+
+/// A table, a list for it and a trace for that, each of any kind.
+fn some_files(rng: &mut Rng) -> [Vec<u8>; 3] {
+    let typed = tables::some_typed(rng);
+    let accepted = lists::accepted(rng, &typed).unwrap_or_default();
+    let kind = rng.pick(&ListKind::all());
+    let list = lists::list(rng, &typed, kind).filter(|_| rng.once_in(2));
+    let kind = rng.pick(&TraceKind::all());
+    let trace = traces::trace(rng, &typed, &accepted, kind).unwrap_or_default();
+    let kind = rng.pick(&TableKind::all());
+    let table = if rng.once_in(3) { tables::table(rng, kind) } else { typed };
+    [table, list.unwrap_or(accepted), trace]
+}
+
+#[test]
+fn generated_files_and_damaged_ones() {
+    for seed in 0..3_000 {
+        let mut rng = Rng::new(seed);
+        let [mut table, mut list, mut trace] = some_files(&mut rng);
+        for file in [&mut table, &mut list, &mut trace] {
+            if rng.once_in(4) {
+                let how = rng.pick(&Damage::ALL);
+                *file = damage::damage(&mut rng, how, file);
+                file.truncate(4_000);
+            }
+        }
+        all_answer(&table, &list, &trace);
+    }
+}
+
+#[test]
+fn every_number_is_among_the_generated_ones() {
+    let mut seen = [0; 16];
+    for seed in 0..6_000 {
+        let [table, list, trace] = some_files(&mut Rng::new(seed));
+        let room = if seed % 8 == 0 { 0 } else { 7_680 };
+        let [number, file, place, ..] = run(&table, &list, &trace, room, room);
+        seen[number as usize] += 1;
+        if number != 0 {
+            let words = crate::refusal(number, file, place, &table, Some(&list), Some(&trace));
+            assert!(!words.is_empty(), "refused {number} {file} {place}");
+        }
+    }
+    assert!(seen.iter().all(|&times| times > 0), "{seen:?}");
+}
+
+#[test]
+fn files_cut_anywhere() {
+    let [table, list, trace] = ["asking.spt", "asking.spl", "asking-good.spx"].map(|name| example(&format!("incident/{name}")));
+    for end in 0..table.len().max(list.len()).max(trace.len()) {
+        let cut = |file: &[u8]| file[..end.min(file.len())].to_vec();
+        all_answer(&cut(&table), &list, &trace);
+        all_answer(&table, &cut(&list), &trace);
+        all_answer(&table, &list, &cut(&trace));
+    }
+}
+
+#[test]
+fn one_byte_changed_anywhere() {
+    let files = ["answering.spt", "answering.spl", "answering-good.spx"].map(|name| example(&format!("incident/{name}")));
+    for which in 0..3 {
+        for at in 0..files[which].len() {
+            for byte in [0, 1, 2, 3, 5, 9, 97, 255] {
+                let mut changed = files.clone();
+                changed[which][at] = byte;
+                all_answer(&changed[0], &changed[1], &changed[2]);
+            }
+        }
+    }
+}
+
+#[test]
+fn very_long_input() {
+    let mut long = b"SPT\x00\x01".to_vec();
+    long.resize(1_000_000, 5);
+    all_answer(&long, &long, &long);
+    // A type as deep as the input is long.
+    let table = b"SPT\x00\x01\x01\x00\x00\x00";
+    assert!(crate::types(table, &[vec![5; 1_000_000]]).starts_with("0 name free not a type: 05"));
+    let mut deep = vec![5; 100_000];
+    deep.push(0);
+    let words = crate::types(table, &[deep]);
+    assert_eq!(words.matches("ciphertext(").count(), 100_000);
+    assert_eq!(words.matches(')').count(), 100_000);
+}

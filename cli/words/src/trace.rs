@@ -1,0 +1,267 @@
+//! A trace, and a run's values and messages, read as far as their entries are well formed, and in words.
+
+use crate::codes::{file, find, TermCode, ATOM, ATOMS, DIRECTIONS, TERMS, TERM_FIELDS};
+use crate::entries::{entry, header, header_words, length_fault, unknown, wide, wrong_field, Bounds, Fault, Header};
+use crate::library;
+use crate::table::Table;
+use crate::writing::{counted, hex, section, short_type, written, Graph, Node};
+use crate::{refused, Files, Kind};
+
+/// A value: an atom of a kind, or what a code makes of two lower values.
+#[derive(Clone, Copy, PartialEq, Eq)]
+pub enum Value {
+    Atom { kind: u16, number: u16 },
+    Made { code: u8, parts: [usize; 2] },
+}
+
+/// A value table, up to its first malformed entry.
+pub struct Values {
+    version: u16,
+    pub all: Vec<Value>,
+}
+
+impl Graph for Values {
+    fn node(&self, index: usize) -> Option<Node> {
+        Some(match *self.all.get(index)? {
+            Value::Atom { kind, number } => {
+                let kind = find(ATOMS, kind, self.version)?;
+                Node::Leaf(format!("{} {number}", kind.word))
+            }
+            Value::Made { code, parts } => Node::Made(find(TERMS, code, self.version)?, parts),
+        })
+    }
+}
+
+/// Bytes that are no value, and what is wrong with them.
+struct NoValue {
+    index: usize,
+    bytes: [u8; 5],
+    wrong: String,
+}
+
+impl Values {
+    fn new(version: u16) -> Values {
+        Values {
+            version,
+            all: Vec::new(),
+        }
+    }
+
+    /// Reads so many values, up to the first one that is malformed or is not all there.
+    fn read(&mut self, bytes: &[u8], count: usize) -> Result<(), Option<NoValue>> {
+        for index in 0..count {
+            let bytes = entry::<5>(bytes, 5 * index).ok_or(None)?;
+            match self.read_value(index, bytes) {
+                Ok(value) => self.all.push(value),
+                Err(wrong) => return Err(Some(NoValue { index, bytes, wrong })),
+            }
+        }
+        Ok(())
+    }
+
+    fn read_value(&self, index: usize, bytes: [u8; 5]) -> Result<Value, String> {
+        let (code, a, b) = (bytes[0], wide(&bytes, 1), wide(&bytes, 3));
+        if code == ATOM {
+            let kind = find(ATOMS, a, self.version).ok_or_else(|| unknown("kind of atoms", a))?;
+            return Ok(Value::Atom {
+                kind: kind.code,
+                number: b,
+            });
+        }
+        let row: &TermCode = find(TERMS, code, self.version).ok_or_else(|| unknown("value code", code))?;
+        let parts = [a, b].map(usize::from);
+        let bounds = Bounds {
+            part: "value",
+            parts: index,
+            registers: None,
+            symbols: 0,
+            sorts: &[],
+            version: self.version,
+        };
+        match wrong_field(&row.fields, &TERM_FIELDS, &parts, bounds) {
+            Some(wrong) => Err(wrong),
+            None => Ok(Value::Made { code, parts }),
+        }
+    }
+
+    /// A value written out, in a bounded length.
+    pub fn value(&self, index: usize) -> String {
+        written(self, index)
+    }
+
+    fn rows(&self) -> Vec<Vec<String>> {
+        let all = 0..self.all.len();
+        all.map(|index| vec![index.to_string(), self.value(index)]).collect()
+    }
+}
+
+/// A trace up to its first malformed entry.
+pub struct Trace {
+    pub header: Option<Header>,
+    pub values: Values,
+    pub starting: Vec<usize>,
+    pub supply: Vec<usize>,
+    /// Its fault among 1 to 5.
+    pub fault: Option<Fault>,
+}
+
+impl Trace {
+    pub fn read(bytes: &[u8]) -> Trace {
+        let mut trace = Trace {
+            header: None,
+            values: Values::new(0),
+            starting: Vec::new(),
+            supply: Vec::new(),
+            fault: None,
+        };
+        match header(Kind::Trace, bytes) {
+            Err(fault) => trace.fault = Some(fault),
+            Ok(header) => {
+                trace.values.version = header.version;
+                let (v, k, f) = (header.counts[0], header.counts[1], header.counts[2]);
+                let malformed = trace.read_entries(bytes, v, k, f).err();
+                trace.fault = length_fault(10 + 5 * v + 2 * f + 2 * k, bytes.len()).or(malformed.flatten());
+                trace.header = Some(header);
+            }
+        }
+        trace
+    }
+
+    fn read_entries(&mut self, bytes: &[u8], v: usize, k: usize, f: usize) -> Result<(), Option<Fault>> {
+        let values = self.values.read(bytes.get(10..).unwrap_or(&[]), v);
+        values.map_err(|no_value| {
+            no_value.map(|no| Fault::entry(10 + 5 * no.index, &format!("value {}", no.index), &no.bytes, no.wrong))
+        })?;
+        let starts = 10 + 5 * v;
+        read_indexes(&mut self.starting, bytes, starts, f, v, "starting value")?;
+        read_indexes(&mut self.supply, bytes, starts + 2 * f, k, v, "supplied value")
+    }
+}
+
+/// So many 16-bit indexes of values, up to the first one that is out of range or is not all there.
+fn read_indexes(
+    into: &mut Vec<usize>,
+    bytes: &[u8],
+    start: usize,
+    count: usize,
+    values: usize,
+    word: &str,
+) -> Result<(), Option<Fault>> {
+    for i in 0..count {
+        let at = start + 2 * i;
+        let pair = entry::<2>(bytes, at).ok_or(None)?;
+        let index = usize::from(u16::from_be_bytes(pair));
+        if index >= values {
+            let wrong = format!("there is no value {index}: there are {values}");
+            return Err(Some(Fault::entry(at, &format!("{word} {i}"), &pair, wrong)));
+        }
+        into.push(index);
+    }
+    Ok(())
+}
+
+/// A trace in words; with a table, the free symbol of each starting value.
+pub fn show(bytes: &[u8], table_bytes: Option<&[u8]>) -> String {
+    let files = Files {
+        table: table_bytes,
+        list: None,
+        trace: Some(bytes),
+    };
+    let mut out = library::trace_refusal(bytes).map_or(String::new(), |refusal| refused(refusal, &files));
+    let trace = Trace::read(bytes);
+    if let Some(header) = &trace.header {
+        out += &header_words(Kind::Trace, header);
+    }
+    let table = table_bytes.map(Table::read);
+    let known = table.as_ref().filter(|table| table.fault.is_none());
+    if let (Some(bytes), None) = (table_bytes, known) {
+        out += "shown without the table, which can't be read:\n";
+        out += &library::types(bytes).err().map_or(String::new(), |refusal| refused(refusal, &Files::table(bytes)));
+    }
+    out += &section("values", &trace.values.rows());
+    let of = known.map(|table| free_words(table, table_bytes.unwrap_or(&[])));
+    let index_row = |(i, &index): (usize, &usize)| vec![i.to_string(), format!("value {index}"), trace.values.value(index)];
+    let starting = trace.starting.iter().enumerate().map(|(i, index)| {
+        let mut row = index_row((i, index));
+        row.extend(of.as_ref().map(|of| of.get(i).map_or("for no free symbol".to_string(), |one| format!("for {one}"))));
+        row
+    });
+    out += &section("starting values", &starting.collect::<Vec<_>>());
+    if let Some(missing) = of.as_ref().and_then(|of| of.get(trace.starting.len()..)).filter(|rest| !rest.is_empty()) {
+        out += &format!("no starting value for {}\n", missing.join(", "));
+    }
+    let supply = trace.supply.iter().enumerate().map(index_row);
+    out += &section("supply", &supply.collect::<Vec<_>>());
+    out
+}
+
+/// The free symbols, each with its widest type where the table has types: `s0, a Channel`.
+fn free_words(table: &Table, bytes: &[u8]) -> Vec<String> {
+    let types = library::types(bytes).unwrap_or_default();
+    let free = table.free().into_iter();
+    let words = free.map(|symbol| match types.get(symbol) {
+        Some(one) => format!("s{symbol}: {}", short_type(one, table.version)),
+        None => format!("s{symbol}"),
+    });
+    words.collect()
+}
+
+/// The version by which a run's buffers are read: they have none of their own.
+fn newest() -> u16 {
+    file(Kind::Trace).newest
+}
+
+/// A value buffer, and the line for what is not a value or is left over.
+fn read_values(bytes: &[u8]) -> (Values, String) {
+    let mut values = Values::new(newest());
+    let end = match values.read(bytes, bytes.len() / 5) {
+        Err(Some(no)) => format!("value {} is malformed: {}: {}\n", no.index, hex(&no.bytes), no.wrong),
+        _ => rest_line(bytes.len() % 5),
+    };
+    (values, end)
+}
+
+/// A run's values in words, one line each.
+pub fn show_values(bytes: &[u8]) -> String {
+    let (values, end) = read_values(bytes);
+    let count = counted(values.all.len(), "value", "values");
+    let lines = values.rows().into_iter().map(|row| format!("{}  {}\n", row[0], row[1]));
+    format!("{count}\n{}{end}", lines.collect::<String>())
+}
+
+/// A run's messages in words, one line each: as `run` prints them and, with the values, what was sent or received on what.
+pub fn show_log(bytes: &[u8], values: Option<&[u8]>) -> String {
+    let values = values.map(read_values);
+    let mut out = counted(bytes.len() / 5, "message", "messages") + "\n";
+    out += &message_lines(bytes, values.as_ref().map(|(values, _)| values));
+    out += &rest_line(bytes.len() % 5);
+    if let Some((_, end)) = values.filter(|(_, end)| !end.is_empty()) {
+        out += &format!("of the values: {end}");
+    }
+    out
+}
+
+/// The lines of a run's messages alone.
+pub fn messages(log: &[u8], values: &[u8]) -> String {
+    message_lines(log, Some(&read_values(values).0))
+}
+
+fn message_lines(log: &[u8], values: Option<&Values>) -> String {
+    let line = |entry: &[u8]| {
+        let (channel, value) = (usize::from(wide(entry, 1)), usize::from(wide(entry, 3)));
+        let Some(direction) = DIRECTIONS.get(usize::from(entry[0])) else {
+            return format!("malformed: {}: {}\n", hex(entry), unknown("direction", entry[0]));
+        };
+        let words = values.map(|values| format!("  {} on {}", values.value(value), values.value(channel)));
+        format!("{direction} on {channel}: {value}{}\n", words.unwrap_or_default())
+    };
+    log.chunks_exact(5).map(line).collect()
+}
+
+/// The line for bytes that are left over after entries of five.
+fn rest_line(rest: usize) -> String {
+    match rest {
+        0 => String::new(),
+        _ => format!("{} left over: an entry has 5\n", counted(rest, "byte", "bytes")),
+    }
+}
