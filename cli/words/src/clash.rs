@@ -226,15 +226,23 @@ pub fn lines(table: &Table, clash: &Clash) -> Vec<String> {
         Thing::Term(term) => table.term(term),
     };
     let part: String = clash.path.iter().rev().map(|word| format!("the {word} of ")).collect();
-    let mut sides: Vec<&Side> = clash.sides.iter().collect();
-    sides.sort_by_key(|side| side.why.steps().first().copied());
-    let code = |side: &Side| find(TYPES, side.code, u16::MAX).map_or("?", |row| row.word);
-    let both = format!("{} and as {}", code(sides[0]), code(sides[1]));
-    let mut lines = vec![format!("{part}{thing} is wanted as {both}, and nothing is both")];
-    for side in sides {
-        let why = why_lines(table, &side.why, &thing);
+    let word = |side: &Side| find(TYPES, side.code, u16::MAX).map_or("?", |row| row.word);
+    let [a, b] = &clash.sides;
+    let mut demands = vec![a, b];
+    demands.sort_by_key(|side| side.why.steps().first().copied());
+    let mut lines = vec![match &*a.why {
+        Why::Sort => format!("{thing} is a name, and is wanted as {}", word(b)),
+        Why::Shape => format!("{thing} is a {}, and is wanted as {}", word(a), word(b)),
+        _ => format!(
+            "{part}{thing} is wanted as {} and as {}, and nothing is both",
+            word(demands[0]),
+            word(demands[1])
+        ),
+    }];
+    for side in demands {
+        let why = why_lines(table, &side.why);
         lines.extend(why.into_iter().enumerate().map(|(i, line)| match i {
-            0 => format!("as {}: {line}", code(side)),
+            0 => format!("as {}: {line}", word(side)),
             _ => line,
         }));
     }
@@ -242,11 +250,10 @@ pub fn lines(table: &Table, clash: &Clash) -> Vec<String> {
 }
 
 /// Why something is wanted, the step that first wants it in the first line.
-fn why_lines(table: &Table, why: &Why, thing: &str) -> Vec<String> {
+fn why_lines(table: &Table, why: &Why) -> Vec<String> {
     let text = |step: usize| table.step_text(table.steps[step]);
     match why {
-        Why::Sort => vec![format!("{thing} is a name")],
-        Why::Shape => vec![format!("{thing} is one")],
+        Why::Sort | Why::Shape => Vec::new(),
         Why::Step { step, want } => {
             let here = table.steps[*step];
             let words = filled(want.words, &STEP_FIELDS, |field| table.field(here, field));
@@ -261,7 +268,7 @@ fn why_lines(table: &Table, why: &Why, thing: &str) -> Vec<String> {
             vec![format!("step {step} {words} in {}: {}", table.term(*term), text(*step))]
         }
         Why::Through { step, symbol, rest } => {
-            let mut lines = why_lines(table, rest, thing);
+            let mut lines = why_lines(table, rest);
             lines.push(format!("s{symbol} comes from step {step}: {}", text(*step)));
             lines
         }

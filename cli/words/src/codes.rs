@@ -321,10 +321,7 @@ pub const STEPS: &[StepCode] = &[
         text: "decrypt $a $b $x",
         words: "decrypt $a with $b as $x",
         fields: [Term, Term, Variable, Nothing],
-        wants: &[
-            want(0, 5, &[2], "decrypts $a"),
-            want(1, 3, &[], "decrypts with $b"),
-        ],
+        wants: &[want(0, 5, &[2], "decrypts $a"), want(1, 3, &[], "decrypts with $b")],
         due: &[due(6, A, B, X)],
     },
 ];
@@ -349,10 +346,17 @@ pub struct StatementCode {
     pub logs: bool,
 }
 
-const fn statement(code: u8, words: &'static str, fields: [Holds; 3], gives: Gives, logs: bool) -> StatementCode {
+const fn statement(
+    code: u8,
+    since: u16,
+    words: &'static str,
+    fields: [Holds; 3],
+    gives: Gives,
+    logs: bool,
+) -> StatementCode {
     StatementCode {
         code,
-        since: 1,
+        since,
         words,
         fields,
         gives,
@@ -360,16 +364,22 @@ const fn statement(code: u8, words: &'static str, fields: [Holds; 3], gives: Giv
     }
 }
 
+const PQ: [Holds; 3] = [Register, Register, Nothing];
+const PS: [Holds; 3] = [Register, Nothing, Symbol];
+const PQS: [Holds; 3] = [Register, Register, Symbol];
+const S: [Holds; 3] = [Nothing, Nothing, Symbol];
+const SYMBOL: Gives = Gives::Symbols(&[2]);
+
 pub const STATEMENTS: &[StatementCode] = &[
-    statement(0, "send $q on $p", [Register, Register, Nothing], Gives::Nothing, true),
-    statement(1, "receive on $p into $s", [Register, Nothing, Symbol], Gives::Symbols(&[2]), true),
-    statement(2, "fresh name $s", [Nothing, Nothing, Symbol], Gives::Symbols(&[2]), false),
-    statement(3, "compare $p with $q", [Register, Register, Nothing], Gives::Nothing, false),
-    statement(4, "left part of $p into $s", [Register, Nothing, Symbol], Gives::Symbols(&[2]), false),
-    statement(5, "right part of $p into $s", [Register, Nothing, Symbol], Gives::Symbols(&[2]), false),
-    statement(6, "decrypt $p with $q into $s", [Register, Register, Symbol], Gives::Symbols(&[2]), false),
-    statement(7, "pair of $p and $q", [Register, Register, Nothing], Gives::Term(1), false),
-    statement(8, "encrypt $p under $q", [Register, Register, Nothing], Gives::Term(2), false),
+    statement(0, 1, "send $q on $p", PQ, Gives::Nothing, true),
+    statement(1, 1, "receive on $p into $s", PS, SYMBOL, true),
+    statement(2, 1, "fresh name $s", S, SYMBOL, false),
+    statement(3, 1, "compare $p with $q", PQ, Gives::Nothing, false),
+    statement(4, 1, "left part of $p into $s", PS, SYMBOL, false),
+    statement(5, 1, "right part of $p into $s", PS, SYMBOL, false),
+    statement(6, 1, "decrypt $p with $q into $s", PQS, SYMBOL, false),
+    statement(7, 1, "pair of $p and $q", PQ, Gives::Term(1), false),
+    statement(8, 1, "encrypt $p under $q", PQ, Gives::Term(2), false),
 ];
 
 /// The letters of an entry's fields: of a term, a step and a statement.

@@ -31,7 +31,10 @@ impl Fault {
         Fault {
             number: 5,
             place: place as u64,
-            lines: vec![format!("byte {place} begins {entry}: {}", crate::writing::hex(bytes)), wrong],
+            lines: vec![
+                format!("byte {place} begins {entry}: {}", crate::writing::hex(bytes)),
+                wrong,
+            ],
         }
     }
 }
@@ -76,11 +79,17 @@ pub fn header(of: Kind, bytes: &[u8]) -> Result<Header, Fault> {
     }
     if bytes.len() < file.header {
         let long = counted(bytes.len(), "byte", "bytes");
-        return Err(Fault::new(1, format!("it has {long}, and a {}'s header has {}", file.word, file.header)));
+        return Err(Fault::new(
+            1,
+            format!("it has {long}, and a {}'s header has {}", file.word, file.header),
+        ));
     }
     let version = wide(bytes, 3);
     if version == 0 || version > file.newest {
-        return Err(Fault::new(2, format!("its version is {version}, and {} is known", known(file.newest))));
+        return Err(Fault::new(
+            2,
+            format!("its version is {version}, and {} is known", known(file.newest)),
+        ));
     }
     let mut counts = Vec::new();
     let mut over = Vec::new();
@@ -90,7 +99,11 @@ pub fn header(of: Kind, bytes: &[u8]) -> Result<Header, Fault> {
             _ => usize::from(wide(bytes, count.at)),
         };
         if number > count.limit {
-            over.push(format!("it has {}, and may have {} at most", counted(number, count.one, count.many), count.limit));
+            over.push(format!(
+                "it has {}, and may have {} at most",
+                counted(number, count.one, count.many),
+                count.limit
+            ));
         }
         counts.push(number);
     }
@@ -111,12 +124,29 @@ fn known(newest: u16) -> String {
     }
 }
 
-/// The header in words: `table, version 1: 4 symbols, 4 terms, 3 steps`.
-pub fn header_words(of: Kind, header: &Header) -> String {
-    let file = file(of);
-    let counts = file.counts.iter().zip(&header.counts);
-    let counts: Vec<String> = counts.map(|(count, &n)| counted(n, count.one, count.many)).collect();
-    format!("{}, version {}: {}\n", file.word, header.version, counts.join(", "))
+/// How what is shown of a file begins: its refusal, if it has one, then the header, where it can be read:
+/// `table, version 1: 4 symbols, 4 terms, 3 steps`.
+pub fn opening(refusal: Option<String>, of: Kind, header: Option<&Header>, whole: bool) -> String {
+    let refused = refusal.is_some();
+    let mut out = refusal.unwrap_or_default();
+    if let Some(header) = header {
+        let file = file(of);
+        let counts = file.counts.iter().zip(&header.counts);
+        let counts: Vec<String> = counts.map(|(count, &n)| counted(n, count.one, count.many)).collect();
+        out += if refused { "\n" } else { "" };
+        let how_far = if whole {
+            ""
+        } else {
+            "; shown as far as it is well formed"
+        };
+        out += &format!(
+            "{}, version {}: {}{how_far}\n",
+            file.word,
+            header.version,
+            counts.join(", ")
+        );
+    }
+    out
 }
 
 /// Number 4's line: how long the file should be.
@@ -127,7 +157,10 @@ pub fn length_fault(wanted: usize, there: usize) -> Option<Fault> {
         _ if there > wanted => format!("{} too long", by(there - wanted)),
         _ => return None,
     };
-    Some(Fault::length(format!("its counts ask for {}, and it has {there}: it is {how}", by(wanted))))
+    Some(Fault::length(format!(
+        "its counts ask for {}, and it has {there}: it is {how}",
+        by(wanted)
+    )))
 }
 
 /// What the fields of an entry may name.

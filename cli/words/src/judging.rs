@@ -1,6 +1,6 @@
 //! A list against its table: the statements due, the first one that is not due, and both in words.
 
-use crate::codes::{find, Due, Gives, Holds, STATEMENTS, STATEMENT_FIELDS};
+use crate::codes::{find, Due, Holds, TermCode, STATEMENTS, STATEMENT_FIELDS};
 use crate::list::{statement_line, List, Meaning, Registers, Statement};
 use crate::table::Table;
 use crate::writing::filled;
@@ -9,6 +9,8 @@ use crate::writing::filled;
 pub struct Judging<'a> {
     pub table: &'a Table,
     pub list: &'a List,
+    /// How many free symbols there are.
+    free: usize,
     registers: Registers,
     terms: Vec<Option<usize>>,
     /// The statements due, each with its step.
@@ -19,14 +21,20 @@ pub struct Judging<'a> {
 pub enum Verdict {
     Accepted,
     /// A statement that is not due, and how many of those due were done before it.
-    NotDue { statement: usize, done: usize },
+    NotDue {
+        statement: usize,
+        done: usize,
+    },
     /// The end comes early: how many of those due were done.
-    Early { done: usize },
+    Early {
+        done: usize,
+    },
 }
 
 impl<'a> Judging<'a> {
     pub fn new(table: &'a Table, list: &'a List) -> Judging<'a> {
-        let registers = list.registers(&table.free());
+        let free = table.free();
+        let registers = list.registers(&free);
         let mut terms = Vec::new();
         for meaning in &registers.0 {
             terms.push(term_meant(table, meaning, &terms));
@@ -37,6 +45,7 @@ impl<'a> Judging<'a> {
         Judging {
             table,
             list,
+            free: free.len(),
             registers,
             terms,
             due: due.filter(|(_, due)| known(due)).collect(),
@@ -47,17 +56,15 @@ impl<'a> Judging<'a> {
     pub fn verdict(&self) -> Verdict {
         let mut done = 0;
         for (i, &statement) in self.list.statements.iter().enumerate() {
-            let permitted = match statement.row.gives {
-                Gives::Term(_) => self.made(i).is_some(),
-                _ => {
-                    done += 1;
-                    self.is_due(statement, done - 1)
-                }
+            let build = statement.is_build();
+            let permitted = match build {
+                true => self.made(i).is_some(),
+                false => self.is_due(statement, done),
             };
             if !permitted {
-                let done = self.done_before(i);
                 return Verdict::NotDue { statement: i, done };
             }
+            done += usize::from(!build);
         }
         match done < self.due.len() {
             true => Verdict::Early { done },
@@ -68,17 +75,19 @@ impl<'a> Judging<'a> {
     /// How many statements that are no builds stand before this one: in a list that is right so far, those due that are done.
     fn done_before(&self, statement: usize) -> usize {
         let before = self.list.statements.iter().take(statement);
-        before.filter(|statement| !matches!(statement.row.gives, Gives::Term(_))).count()
+        before.filter(|statement| !statement.is_build()).count()
     }
 
     /// The table's term that a build makes, if there is one.
     fn made(&self, statement: usize) -> Option<usize> {
-        let register = self.table.free().len() + self.list.given.get(statement)?;
+        let register = self.free + self.list.given.get(statement)?;
         *self.terms.get(register)?
     }
 
     fn is_due(&self, statement: Statement, index: usize) -> bool {
-        let Some(&(step, due)) = self.due.get(index) else { return false };
+        let Some(&(step, due)) = self.due.get(index) else {
+            return false;
+        };
         let step = self.table.steps[step];
         let fields = statement.row.fields.iter().zip(statement.fields).zip(due.from);
         let fits = |((holds, number), from): ((&Holds, usize), Option<usize>)| {
@@ -104,17 +113,24 @@ impl<'a> Judging<'a> {
     /// What was due after so many: the step, and the statement that it asks for.
     fn due_lines(&self, index: usize) -> Vec<String> {
         let Some(&(step, _)) = self.due.get(index) else {
-            return vec!["nothing is due: every step is done, and only builds of the table's terms may follow".to_string()];
+            return vec![
+                "nothing is due: every step is done, and only builds of the table's terms may follow".to_string(),
+            ];
         };
         let due = self.due_words(index).map(|words| format!("due is: {words}"));
-        due.into_iter().chain(self.table.step_line(step)).collect()
+        let step = self.table.step_line(step).map(|line| format!("for {line}"));
+        due.into_iter().chain(step).collect()
     }
 
     /// Number 12 in words.
     pub fn not_due(&self, statement: usize, done: usize) -> Vec<String> {
-        let mut lines: Vec<String> = statement_line(self.list, &self.registers, statement).into_iter().collect();
-        let Some(&here) = self.list.statements.get(statement) else { return lines };
-        if let Gives::Term(_) = here.row.gives {
+        let mut lines: Vec<String> = statement_line(self.list, &self.registers, statement)
+            .into_iter()
+            .collect();
+        let Some(&here) = self.list.statements.get(statement) else {
+            return lines;
+        };
+        if here.is_build() {
             lines.push("it builds a term that is not in the table".to_string());
         }
         lines.extend(self.due_lines(done));
@@ -127,24 +143,16 @@ impl<'a> Judging<'a> {
 
     /// Number 13 in words.
     pub fn early(&self, done: usize) -> Vec<String> {
-        let mut lines = vec![format!("all its statements are right, and more is due after statement {}", self.last())];
-        if self.list.statements.is_empty() {
-            lines = vec!["it has no statements, and some are due".to_string()];
-        }
+        let mut lines = vec!["every statement is right so far, and one more is due".to_string()];
         lines.extend(self.due_lines(done));
         lines
-    }
-
-    fn last(&self) -> usize {
-        self.list.statements.len().saturating_sub(1)
     }
 
     /// A statement, and the step that it belongs to if it is no build.
     pub fn stopped(&self, statement: usize) -> Vec<String> {
         let line = statement_line(self.list, &self.registers, statement);
-        let is_build = |statement: &Statement| matches!(statement.row.gives, Gives::Term(_));
         let step = match self.list.statements.get(statement) {
-            Some(here) if !is_build(here) => self.due.get(self.done_before(statement)),
+            Some(here) if !here.is_build() => self.due.get(self.done_before(statement)),
             _ => None,
         };
         let step = step.and_then(|&(step, _)| self.table.step_line(step));
@@ -161,10 +169,8 @@ impl<'a> Judging<'a> {
 fn term_meant(table: &Table, meaning: &Meaning, before: &[Option<usize>]) -> Option<usize> {
     match *meaning {
         Meaning::Symbol(symbol) => {
-            let is_symbol = |&(row, fields): &(&crate::codes::TermCode, [usize; 2])| {
-                row.fields[0] == Holds::Symbol && fields[0] == symbol
-            };
-            table.terms.iter().position(|term| is_symbol(term))
+            let is_symbol = |(row, fields): &(&TermCode, [usize; 2])| row.gives.is_none() && fields[0] == symbol;
+            table.terms.iter().position(is_symbol)
         }
         Meaning::Built(row, [p, q]) => {
             let part = |register: usize| before.get(register).copied().flatten();

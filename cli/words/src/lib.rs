@@ -62,7 +62,9 @@ fn joined(lines: Vec<String>) -> String {
 /// A refusal's line, then what it means, indented.
 fn refused(refusal: Refusal, files: &Files) -> String {
     let Refusal { number, file, place } = refusal;
-    let lines = refusal::lines(refusal, files).into_iter().map(|line| format!("  {line}"));
+    let lines = refusal::lines(refusal, files)
+        .into_iter()
+        .map(|line| format!("  {line}"));
     format!("refused {number} {file} {place}\n{}", joined(lines.collect()))
 }
 

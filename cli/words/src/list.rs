@@ -1,9 +1,9 @@
 //! A statement list, read as far as its entries are well formed, what its registers mean, and both in words.
 
 use crate::codes::{find, Gives, Holds, StatementCode, TermCode, STATEMENTS, STATEMENT_FIELDS, TERMS};
-use crate::entries::{entry, header, header_words, length_fault, unknown, wrong_field, Bounds, Fault, Header};
+use crate::entries::{entry, header, length_fault, opening, unknown, wrong_field, Bounds, Fault, Header};
 use crate::library;
-use crate::table::Table;
+use crate::table::beside;
 use crate::writing::{filled, is_type, section, short_type, written, Graph, Node};
 use crate::{refused, Files, Kind};
 
@@ -12,6 +12,13 @@ use crate::{refused, Files, Kind};
 pub struct Statement {
     pub row: &'static StatementCode,
     pub fields: [usize; 3],
+}
+
+impl Statement {
+    /// Whether it builds a term.
+    pub fn is_build(self) -> bool {
+        matches!(self.row.gives, Gives::Term(_))
+    }
 }
 
 /// What a register means: a symbol, or what was built of two registers given before it.
@@ -74,7 +81,12 @@ impl List {
             let found = type_at(bytes, at).ok_or(None)?;
             if !is_type(found, self.version) {
                 let wrong = "these bytes are not exactly one type".to_string();
-                return Err(Some(Fault::entry(at, &format!("the type of s{i}, after its length byte"), found, wrong)));
+                return Err(Some(Fault::entry(
+                    at,
+                    &format!("the type of s{i}, after its length byte"),
+                    found,
+                    wrong,
+                )));
             }
             self.types.push(found.to_vec());
             at += 1 + found.len();
@@ -149,7 +161,10 @@ fn wrong_length(bytes: &[u8], s: usize, n: usize) -> Option<Fault> {
     let mut at = 8;
     for i in 0..s {
         let Some(found) = type_at(bytes, at) else {
-            return Some(Fault::length(format!("it has {} bytes, and the type of s{i} is not all there", bytes.len())));
+            return Some(Fault::length(format!(
+                "it has {} bytes, and the type of s{i} is not all there",
+                bytes.len()
+            )));
         };
         at += 1 + found.len();
     }
@@ -176,76 +191,87 @@ fn plain_field(statement: Statement, field: usize) -> String {
 
 /// A statement with its registers: `send r3 on r0`.
 pub fn statement_words(statement: Statement) -> String {
-    filled(statement.row.words, &STATEMENT_FIELDS, |field| plain_field(statement, field))
+    filled(statement.row.words, &STATEMENT_FIELDS, |field| {
+        plain_field(statement, field)
+    })
 }
 
 /// A statement with what its registers mean: `send s3 on s0`.
 pub fn statement_meaning(statement: Statement, registers: &Registers) -> String {
-    filled(statement.row.words, &STATEMENT_FIELDS, |field| match statement.row.fields[field] {
-        Holds::Register => written(registers, statement.fields[field]),
-        _ => plain_field(statement, field),
+    filled(statement.row.words, &STATEMENT_FIELDS, |field| {
+        match statement.row.fields[field] {
+            Holds::Register => written(registers, statement.fields[field]),
+            _ => plain_field(statement, field),
+        }
     })
-}
-
-/// The registers that a statement gives, and what they mean; by their numbers after the free symbols where these are not known.
-fn gives_words(from: usize, count: usize, registers: Option<(usize, &Registers)>) -> String {
-    let register = |i: usize| match registers {
-        Some((free, registers)) => format!("r{} = {}", free + i, written(registers, free + i)),
-        None => format!("r(F+{i})"),
-    };
-    let all: Vec<String> = (from..from + count).map(register).collect();
-    match count {
-        0 => String::new(),
-        _ => format!("gives {}", all.join(" and ")),
-    }
 }
 
 /// A list in words; with a table, what each register means.
 pub fn show(bytes: &[u8], table_bytes: Option<&[u8]>) -> String {
-    let table = table_bytes.map(Table::read);
-    let known = table.as_ref().filter(|table| table.fault.is_none());
-    let free = known.map(Table::free);
+    let (table, no_table) = beside(table_bytes);
+    let free = table.map(|table| table.free());
     let files = Files {
         table: table_bytes,
         list: Some(bytes),
         trace: None,
     };
+    let count = free.as_ref().map(Vec::len);
     // Without a table any register may be there already.
-    let refusal = library::list_refusal(bytes, free.as_ref().map_or(usize::MAX, Vec::len));
-    let mut out = refusal.map_or(String::new(), |refusal| refused(refusal, &files));
-    let list = List::read(bytes, free.as_ref().map(Vec::len));
-    if let Some(header) = &list.header {
-        out += &header_words(Kind::List, header);
-    }
-    if let (Some(bytes), None) = (table_bytes, known) {
-        out += "shown without the table, which can't be read:\n";
-        out += &library::types(bytes).err().map_or(String::new(), |refusal| refused(refusal, &Files::table(bytes)));
-    }
+    let refusal = library::list_refusal(bytes, count.unwrap_or(usize::MAX));
+    let refusal = refusal.map(|refusal| refused(refusal, &files));
+    let list = List::read(bytes, count);
+    let mut out = opening(refusal, Kind::List, list.header.as_ref(), list.fault.is_none());
+    out += &no_table;
     let types = list.types.iter().enumerate();
     let types = types.map(|(symbol, one)| vec![format!("s{symbol}"), short_type(one, list.version)]);
     out += &section("types", &types.collect::<Vec<_>>());
     out += &match &free {
-        Some(free) => {
-            let at_start = free.iter().enumerate();
-            let at_start = at_start.map(|(i, symbol)| vec![format!("r{i}"), format!("s{symbol}")]);
-            section("registers at the start: the free symbols", &at_start.collect::<Vec<_>>())
-        }
-        None if list.given.last().is_some() => {
-            "\nr0 to r(F-1) are the table's F free symbols; with the table it is shown what each register means\n".to_string()
-        }
-        None => String::new(),
+        Some(free) => show_statements(&list, free),
+        None => show_statements_alone(&list),
     };
-    let registers = free.as_ref().map(|free| list.registers(free));
-    let statements = list.statements.iter().zip(&list.given).enumerate();
-    let statements = statements.map(|(i, (&statement, &given))| {
-        let known = free.as_ref().map(Vec::len).zip(registers.as_ref());
-        let gives = gives_words(given, registers_given(statement.row), known);
-        let mut row = vec![i.to_string(), statement_words(statement), gives];
-        row.extend(registers.as_ref().map(|registers| statement_meaning(statement, registers)));
-        row
-    });
-    out += &section("statements", &statements.collect::<Vec<_>>());
     out
+}
+
+/// The registers at the start and the statements, with what each register means.
+fn show_statements(list: &List, free: &[usize]) -> String {
+    let start = free.iter().enumerate();
+    let start = start.map(|(i, symbol)| vec![format!("r{i}"), format!("s{symbol}")]);
+    let start = section("registers at the start: the free symbols", &start.collect::<Vec<_>>());
+    let registers = list.registers(free);
+    let register = |i: usize| format!("r{} = {}", free.len() + i, written(&registers, free.len() + i));
+    let meaning = |statement: Statement| vec![statement_meaning(statement, &registers)];
+    start + &section("statements", &statement_rows(list, register, meaning))
+}
+
+/// The statements of a list whose table is not at hand.
+fn show_statements_alone(list: &List) -> String {
+    if list.statements.is_empty() {
+        return String::new();
+    }
+    let rows = statement_rows(list, |i| format!("r(F+{i})"), |_| Vec::new());
+    let about = "r0 to r(F-1) are the table's F free symbols; with the table it is shown what each register means";
+    format!("\n{about}\n{}", section("statements", &rows))
+}
+
+/// One row a statement: its index, its words, the registers that it gives, and what else is to be said.
+fn statement_rows(
+    list: &List,
+    register: impl Fn(usize) -> String,
+    more: impl Fn(Statement) -> Vec<String>,
+) -> Vec<Vec<String>> {
+    let statements = list.statements.iter().zip(&list.given).enumerate();
+    let row = |(i, (&statement, &given)): (usize, (&Statement, &usize))| {
+        let all: Vec<String> = (given..given + registers_given(statement.row)).map(&register).collect();
+        let gives = if all.is_empty() {
+            String::new()
+        } else {
+            format!("gives {}", all.join(" and "))
+        };
+        let mut row = vec![i.to_string(), statement_words(statement), gives];
+        row.extend(more(statement));
+        row
+    };
+    statements.map(row).collect()
 }
 
 /// The line of a statement: with its registers, and with what they mean.
@@ -260,7 +286,7 @@ pub fn statement_line(list: &List, registers: &Registers, index: usize) -> Optio
 
 /// How many builds a list has, and how many statements that log a message.
 pub fn builds_and_messages(list: &List) -> (usize, usize) {
-    let rows = || list.statements.iter().map(|statement| statement.row);
-    let builds = rows().filter(|row| matches!(row.gives, Gives::Term(_))).count();
-    (builds, rows().filter(|row| row.logs).count())
+    let builds = list.statements.iter().filter(|statement| statement.is_build());
+    let messages = list.statements.iter().filter(|statement| statement.row.logs);
+    (builds.count(), messages.count())
 }

@@ -50,7 +50,10 @@ fn of_table(refusal: Refusal, bytes: Option<&[u8]>) -> Option<Vec<String>> {
     let place = usize::try_from(refusal.place).ok()?;
     let lines = match refusal.number {
         6 => vec![equal_terms(&table, place)?],
-        7 => vec![format!("term {place}, {}, is named by no step and by no other term", table.term(place))],
+        7 => vec![format!(
+            "term {place}, {}, is named by no step and by no other term",
+            table.term(place)
+        )],
         8 => bound_again(&table, place)?,
         9 => used_early(&table, place)?,
         _ => {
@@ -86,7 +89,11 @@ fn used_early(table: &Table, place: usize) -> Option<Vec<String>> {
     let step = *table.steps.get(place)?;
     let line = step.terms().find_map(|top| {
         let held = table.held_by(std::iter::once(top));
-        let symbols = table.terms.iter().enumerate().filter(|&(term, (row, _))| held[term] && row.gives.is_none());
+        let symbols = table
+            .terms
+            .iter()
+            .enumerate()
+            .filter(|&(term, (row, _))| held[term] && row.gives.is_none());
         let mut symbols = symbols.map(|(_, (_, fields))| fields[0]);
         let late = symbols.find_map(|symbol| {
             let step = table.bound_by(symbol)?;
@@ -122,7 +129,12 @@ fn of_trace(refusal: Refusal, bytes: Option<&[u8]>) -> Option<Vec<String>> {
     let place = usize::try_from(refusal.place).ok()?;
     let value = trace.values.all.get(place)?;
     let first = trace.values.all.iter().position(|other| other == value)?;
-    (first < place).then(|| vec![format!("value {place}, {}, is value {first} again", trace.values.value(place))])
+    (first < place).then(|| {
+        vec![format!(
+            "value {place}, {}, is value {first} again",
+            trace.values.value(place)
+        )]
+    })
 }
 
 /// Numbers 11 to 13, of a table without faults and a list without the faults 1 to 5.
@@ -155,7 +167,10 @@ fn wrong_types(table: &Table, widest: &[Vec<u8>], list: &List, place: usize) -> 
         let sort = find(SORTS, byte(&table.sorts, place), table.version)?.word;
         return (wanted != there).then(|| {
             vec![
-                format!("s{place}, a {sort}: the list's type is {}", short_type(there, list.version)),
+                format!(
+                    "s{place}, a {sort}: the list's type is {}",
+                    short_type(there, list.version)
+                ),
                 format!("its widest type in the table is {}", short_type(wanted, table.version)),
             ]
         });
@@ -163,7 +178,10 @@ fn wrong_types(table: &Table, widest: &[Vec<u8>], list: &List, place: usize) -> 
     let (types, symbols) = (list.types.len(), widest.len());
     (types != symbols && place == types.min(symbols)).then(|| {
         let types = counted(types, "type", "types");
-        vec![format!("the list has {types}, and the table {}", counted(symbols, "symbol", "symbols"))]
+        vec![format!(
+            "the list has {types}, and the table {}",
+            counted(symbols, "symbol", "symbols")
+        )]
     })
 }
 
@@ -180,16 +198,24 @@ fn of_start(place: u64, files: &Files) -> Option<Vec<String>> {
     let (values, symbols) = (trace.starting.len(), free.len());
     if values != symbols {
         let names: Vec<String> = free.iter().map(|symbol| format!("s{symbol}")).collect();
-        let which = if names.is_empty() { String::new() } else { format!(": {}", names.join(", ")) };
+        let which = if names.is_empty() {
+            String::new()
+        } else {
+            format!(": {}", names.join(", "))
+        };
         let there = counted(values, "starting value", "starting values");
         let wanted = counted(symbols, "free symbol", "free symbols");
-        return (place == values.min(symbols)).then(|| vec![format!("the trace has {there}, and the table {wanted}{which}")]);
+        return (place == values.min(symbols))
+            .then(|| vec![format!("the trace has {there}, and the table {wanted}{which}")]);
     }
     let (&symbol, &value) = (free.get(place)?, trace.starting.get(place)?);
     let wanted = short_type(types.get(symbol)?, table.version);
     Some(vec![
         format!("starting value {place} is for s{symbol}, whose type is {wanted}"),
-        format!("it is value {value}, {}, which lacks that type", trace.values.value(value)),
+        format!(
+            "it is value {value}, {}, which lacks that type",
+            trace.values.value(value)
+        ),
     ])
 }
 
@@ -204,8 +230,15 @@ fn of_room(place: u64, files: &Files) -> Vec<String> {
         let (builds, messages) = builds_and_messages(&List::read(list, Some(free)));
         let values = Trace::read(trace).values.all.len();
         let (for_values, for_log) = (5 * (values + builds) as u64, 5 * messages as u64);
-        let values = format!("it is that of the values: {} and {}", counted(values, "value", "values"), counted(builds, "build", "builds"));
-        let log = format!("it is that of the messages: {}", counted(messages, "send or receive", "sends and receives"));
+        let values = format!(
+            "it is that of the values: {} and {}",
+            counted(values, "value", "values"),
+            counted(builds, "build", "builds")
+        );
+        let log = format!(
+            "it is that of the messages: {}",
+            counted(messages, "send or receive", "sends and receives")
+        );
         lines.extend(match (place == for_values, place == for_log) {
             (true, false) => Some(values + ", 5 bytes each"),
             (false, true) => Some(log + ", 5 bytes each"),

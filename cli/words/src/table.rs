@@ -1,7 +1,7 @@
 //! A role table, read as far as its entries are well formed, and in words.
 
 use crate::codes::{find, Holds, StepCode, TermCode, SORTS, STEPS, STEP_FIELDS, TERMS, TERM_FIELDS};
-use crate::entries::{byte, entry, header, header_words, length_fault, unknown, wrong_field, Bounds, Fault, Header};
+use crate::entries::{byte, entry, header, length_fault, opening, unknown, wrong_field, Bounds, Fault, Header};
 use crate::library::{self, Refusal};
 use crate::writing::{filled, section, short_type, whole_type, written, Graph, Node};
 use crate::{refused, Files, Kind};
@@ -44,9 +44,9 @@ pub struct Table {
 impl Graph for Table {
     fn node(&self, index: usize) -> Option<Node> {
         let &(row, fields) = self.terms.get(index)?;
-        Some(match row.fields[0] {
-            Holds::Symbol => Node::Leaf(format!("s{}", fields[0])),
-            _ => Node::Made(row, fields),
+        Some(match row.gives {
+            None => Node::Leaf(format!("s{}", fields[0])),
+            Some(_) => Node::Made(row, fields),
         })
     }
 }
@@ -140,12 +140,16 @@ impl Table {
 
     /// The index of a term, if it is in the table.
     pub fn find(&self, code: u8, fields: [usize; 2]) -> Option<usize> {
-        self.terms.iter().position(|&(row, there)| row.code == code && there == fields)
+        self.terms
+            .iter()
+            .position(|&(row, there)| row.code == code && there == fields)
     }
 
     /// The first step that binds a symbol.
     pub fn bound_by(&self, symbol: usize) -> Option<usize> {
-        self.steps.iter().position(|step| step.binds().any(|bound| bound == symbol))
+        self.steps
+            .iter()
+            .position(|step| step.binds().any(|bound| bound == symbol))
     }
 
     /// The symbols that no step binds.
@@ -188,7 +192,11 @@ impl Table {
     /// The line of a step: its index, its text and its words; nothing where there is no such step.
     pub fn step_line(&self, index: usize) -> Option<String> {
         let &step = self.steps.get(index)?;
-        Some(format!("step {index}: {} ({})", self.step_text(step), self.step_words(step)))
+        Some(format!(
+            "step {index}: {} ({})",
+            self.step_text(step),
+            self.step_words(step)
+        ))
     }
 
     fn sort(&self, symbol: usize) -> &'static str {
@@ -205,17 +213,30 @@ impl Table {
     }
 }
 
+/// The table that goes with another file, if its entries can all be read; else lines that say why not.
+pub fn beside(bytes: Option<&[u8]>) -> (Option<Table>, String) {
+    let Some(bytes) = bytes else {
+        return (None, String::new());
+    };
+    let table = Table::read(bytes);
+    match library::types(bytes) {
+        Err(refusal) if table.fault.is_some() => {
+            let why = refused(refusal, &Files::table(bytes));
+            (None, format!("shown without the table, which can't be read:\n{why}"))
+        }
+        _ => (Some(table), String::new()),
+    }
+}
+
 /// A table in words.
 pub fn show(bytes: &[u8]) -> String {
     let types = library::types(bytes);
     let table = Table::read(bytes);
-    let mut out = match types {
-        Err(refusal) => refused(refusal, &Files::table(bytes)),
-        Ok(_) => String::new(),
-    };
-    if let Some(header) = &table.header {
-        out += &header_words(Kind::Table, header);
-    }
+    let refusal = types
+        .as_ref()
+        .err()
+        .map(|&refusal| refused(refusal, &Files::table(bytes)));
+    let mut out = opening(refusal, Kind::Table, table.header.as_ref(), table.fault.is_none());
     let symbols = 0..table.sorts.len();
     let symbols = symbols.map(|symbol| symbol_row(&table, symbol, &types));
     out += &section("symbols", &symbols.collect::<Vec<_>>());
@@ -245,8 +266,14 @@ fn symbol_row(table: &Table, symbol: usize, types: &Result<Vec<Vec<u8>>, Refusal
 pub fn types(bytes: &[u8], types: &[Vec<u8>]) -> String {
     let table = Table::read(bytes);
     let line = |symbol: usize| {
-        let one = types.get(symbol).map_or("?".to_string(), |one| whole_type(one, table.version));
-        format!("{symbol} {} {} {one}\n", table.sort(symbol), table.bound_or_free(symbol))
+        let one = types
+            .get(symbol)
+            .map_or("?".to_string(), |one| whole_type(one, table.version));
+        format!(
+            "{symbol} {} {} {one}\n",
+            table.sort(symbol),
+            table.bound_or_free(symbol)
+        )
     };
     (0..table.sorts.len()).map(line).collect()
 }

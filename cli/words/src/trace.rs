@@ -1,9 +1,9 @@
 //! A trace, and a run's values and messages, read as far as their entries are well formed, and in words.
 
 use crate::codes::{file, find, TermCode, ATOM, ATOMS, DIRECTIONS, TERMS, TERM_FIELDS};
-use crate::entries::{entry, header, header_words, length_fault, unknown, wide, wrong_field, Bounds, Fault, Header};
+use crate::entries::{entry, header, length_fault, opening, unknown, wide, wrong_field, Bounds, Fault, Header};
 use crate::library;
-use crate::table::Table;
+use crate::table::{beside, Table};
 use crate::writing::{counted, hex, section, short_type, written, Graph, Node};
 use crate::{refused, Files, Kind};
 
@@ -167,35 +167,34 @@ pub fn show(bytes: &[u8], table_bytes: Option<&[u8]>) -> String {
         list: None,
         trace: Some(bytes),
     };
-    let mut out = library::trace_refusal(bytes).map_or(String::new(), |refusal| refused(refusal, &files));
+    let refusal = library::trace_refusal(bytes).map(|refusal| refused(refusal, &files));
     let trace = Trace::read(bytes);
-    if let Some(header) = &trace.header {
-        out += &header_words(Kind::Trace, header);
-    }
-    let table = table_bytes.map(Table::read);
-    let known = table.as_ref().filter(|table| table.fault.is_none());
-    if let (Some(bytes), None) = (table_bytes, known) {
-        out += "shown without the table, which can't be read:\n";
-        out += &library::types(bytes).err().map_or(String::new(), |refusal| refused(refusal, &Files::table(bytes)));
-    }
+    let (table, no_table) = beside(table_bytes);
+    let mut out = opening(refusal, Kind::Trace, trace.header.as_ref(), trace.fault.is_none());
+    out += &no_table;
     out += &section("values", &trace.values.rows());
-    let of = known.map(|table| free_words(table, table_bytes.unwrap_or(&[])));
-    let index_row = |(i, &index): (usize, &usize)| vec![i.to_string(), format!("value {index}"), trace.values.value(index)];
+    let symbols = table.map(|table| free_words(&table, table_bytes.unwrap_or(&[])));
+    let row = |(i, &index): (usize, &usize)| vec![i.to_string(), format!("value {index}"), trace.values.value(index)];
     let starting = trace.starting.iter().enumerate().map(|(i, index)| {
-        let mut row = index_row((i, index));
-        row.extend(of.as_ref().map(|of| of.get(i).map_or("for no free symbol".to_string(), |one| format!("for {one}"))));
+        let mut row = row((i, index));
+        let symbol = |all: &Vec<String>| {
+            all.get(i)
+                .map_or("for no free symbol".to_string(), |one| format!("for {one}"))
+        };
+        row.extend(symbols.as_ref().map(symbol));
         row
     });
     out += &section("starting values", &starting.collect::<Vec<_>>());
-    if let Some(missing) = of.as_ref().and_then(|of| of.get(trace.starting.len()..)).filter(|rest| !rest.is_empty()) {
-        out += &format!("no starting value for {}\n", missing.join(", "));
+    let missing = symbols.as_ref().and_then(|all| all.get(trace.starting.len()..));
+    if let Some(missing) = missing.filter(|missing| !missing.is_empty() && trace.fault.is_none()) {
+        out += &format!("\nno starting value for {}\n", missing.join(", "));
     }
-    let supply = trace.supply.iter().enumerate().map(index_row);
+    let supply = trace.supply.iter().enumerate().map(row);
     out += &section("supply", &supply.collect::<Vec<_>>());
     out
 }
 
-/// The free symbols, each with its widest type where the table has types: `s0, a Channel`.
+/// The free symbols, each with its widest type where the table has types: `s0: Channel`.
 fn free_words(table: &Table, bytes: &[u8]) -> Vec<String> {
     let types = library::types(bytes).unwrap_or_default();
     let free = table.free().into_iter();

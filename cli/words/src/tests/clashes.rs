@@ -91,10 +91,11 @@ fn holds(bytes: &[u8]) -> usize {
     // The words name the thing and every step.
     let words = crate::refusal(10, 0, refusal.place, bytes, None, None);
     let first = words.lines().next().expect("a line");
-    match clash.thing {
-        Thing::Symbol(symbol) => assert!(first.contains(&format!("s{symbol} is wanted as "))),
-        Thing::Term(term) => assert!(first.starts_with(&format!("{} is wanted as ", ours.term(term)))),
-    }
+    let thing = match clash.thing {
+        Thing::Symbol(symbol) => format!("s{symbol} is "),
+        Thing::Term(term) => format!("{} is ", ours.term(term)),
+    };
+    assert!(first.contains(&thing), "{words}");
     for step in &steps {
         assert!(words.contains(&format!("step {step}")), "{words}");
     }

@@ -5,7 +5,7 @@ use generate::{damage, lists, tables, traces, Damage, ListKind, Rng, TableKind, 
 use crate::library;
 use crate::list::List;
 use crate::table::Table;
-use crate::tests::{example, run};
+use crate::tests::{example, run, ENOUGH};
 use crate::trace::Trace;
 use crate::writing::LONGEST;
 
@@ -31,13 +31,20 @@ fn all_answer(table: &[u8], list: &[u8], trace: &[u8]) {
         crate::types(table, &[file.to_vec()]);
         for place in [0, 1, 7, u64::MAX] {
             for number in 0..17 {
-                bounded(&crate::refusal(number, number % 5, place, table, Some(list), Some(file)));
+                bounded(&crate::refusal(
+                    number,
+                    number % 5,
+                    place,
+                    table,
+                    Some(list),
+                    Some(file),
+                ));
             }
             bounded(&crate::stopped(table, file, place as usize));
         }
     }
-    for (values, log) in [(0, 0), (7_680, 0), (7_680, 2_560)] {
-        let [number, file, place, ..] = run(table, list, trace, values, log);
+    for room in [[0, 0], [7_680, 0], ENOUGH] {
+        let ([number, file, place, ..], _) = run(table, list, trace, room);
         if number != 0 {
             let words = crate::refusal(number, file, place, table, Some(list), Some(trace));
             assert!(!words.is_empty(), "refused {number} {file} {place}");
@@ -50,14 +57,26 @@ fn all_answer(table: &[u8], list: &[u8], trace: &[u8]) {
 fn same_faults(table: &[u8], list: &[u8], trace: &[u8]) {
     let ours = |refusal: Option<library::Refusal>| refusal.filter(|r| r.number <= 5).map(|r| (r.number, r.place));
     let read = Table::read(table);
-    assert_eq!(ours(library::types(table).err()), read.fault.as_ref().map(|fault| (fault.number, fault.place)));
+    assert_eq!(
+        ours(library::types(table).err()),
+        read.fault.as_ref().map(|fault| (fault.number, fault.place))
+    );
     let free = read.free().len();
     let fault = List::read(list, Some(free)).fault;
-    assert_eq!(ours(library::list_refusal(list, free)), fault.map(|fault| (fault.number, fault.place)));
+    assert_eq!(
+        ours(library::list_refusal(list, free)),
+        fault.map(|fault| (fault.number, fault.place))
+    );
     let fault = List::read(list, None).fault;
-    assert_eq!(ours(library::list_refusal(list, usize::MAX)), fault.map(|fault| (fault.number, fault.place)));
+    assert_eq!(
+        ours(library::list_refusal(list, usize::MAX)),
+        fault.map(|fault| (fault.number, fault.place))
+    );
     let fault = Trace::read(trace).fault;
-    assert_eq!(ours(library::trace_refusal(trace)), fault.map(|fault| (fault.number, fault.place)));
+    assert_eq!(
+        ours(library::trace_refusal(trace)),
+        fault.map(|fault| (fault.number, fault.place))
+    );
 }
 
 /// A table, a list for it and a trace for that, each of any kind.
@@ -69,13 +88,17 @@ fn some_files(rng: &mut Rng) -> [Vec<u8>; 3] {
     let kind = rng.pick(&TraceKind::all());
     let trace = traces::trace(rng, &typed, &accepted, kind).unwrap_or_default();
     let kind = rng.pick(&TableKind::all());
-    let table = if rng.once_in(3) { tables::table(rng, kind) } else { typed };
+    let table = if rng.once_in(3) {
+        tables::table(rng, kind)
+    } else {
+        typed
+    };
     [table, list.unwrap_or(accepted), trace]
 }
 
 #[test]
 fn generated_files_and_damaged_ones() {
-    for seed in 0..3_000 {
+    for seed in 0..1_500 {
         let mut rng = Rng::new(seed);
         let [mut table, mut list, mut trace] = some_files(&mut rng);
         for file in [&mut table, &mut list, &mut trace] {
@@ -94,8 +117,8 @@ fn every_number_is_among_the_generated_ones() {
     let mut seen = [0; 16];
     for seed in 0..6_000 {
         let [table, list, trace] = some_files(&mut Rng::new(seed));
-        let room = if seed % 8 == 0 { 0 } else { 7_680 };
-        let [number, file, place, ..] = run(&table, &list, &trace, room, room);
+        let room = if seed % 8 == 0 { [0, 0] } else { ENOUGH };
+        let ([number, file, place, ..], _) = run(&table, &list, &trace, room);
         seen[number as usize] += 1;
         if number != 0 {
             let words = crate::refusal(number, file, place, &table, Some(&list), Some(&trace));
@@ -107,7 +130,8 @@ fn every_number_is_among_the_generated_ones() {
 
 #[test]
 fn files_cut_anywhere() {
-    let [table, list, trace] = ["asking.spt", "asking.spl", "asking-good.spx"].map(|name| example(&format!("incident/{name}")));
+    let [table, list, trace] =
+        ["asking.spt", "asking.spl", "asking-good.spx"].map(|name| example(&format!("incident/{name}")));
     for end in 0..table.len().max(list.len()).max(trace.len()) {
         let cut = |file: &[u8]| file[..end.min(file.len())].to_vec();
         all_answer(&cut(&table), &list, &trace);
@@ -118,7 +142,8 @@ fn files_cut_anywhere() {
 
 #[test]
 fn one_byte_changed_anywhere() {
-    let files = ["answering.spt", "answering.spl", "answering-good.spx"].map(|name| example(&format!("incident/{name}")));
+    let files =
+        ["answering.spt", "answering.spl", "answering-good.spx"].map(|name| example(&format!("incident/{name}")));
     for which in 0..3 {
         for at in 0..files[which].len() {
             for byte in [0, 1, 2, 3, 5, 9, 97, 255] {
@@ -143,4 +168,39 @@ fn very_long_input() {
     let words = crate::types(table, &[deep]);
     assert_eq!(words.matches("ciphertext(").count(), 100_000);
     assert_eq!(words.matches(')').count(), 100_000);
+}
+
+#[test]
+fn a_run_stops_at_the_step_of_its_statement() {
+    let mut stopped = 0;
+    for seed in 0..1_500 {
+        let mut rng = Rng::new(seed);
+        let table = tables::some_typed(&mut rng);
+        let list = lists::accepted(&mut rng, &table).expect("a list");
+        let kind = TraceKind::Ending(rng.within(1, 7) as u8);
+        let Some(trace) = traces::trace(&mut rng, &table, &list, kind) else {
+            continue;
+        };
+        let (answer, _) = run(&table, &list, &trace, ENOUGH);
+        let (read, judged) = second::service::judged(&table, &list).expect("an accepted list");
+        let at = answer[4] as usize;
+        let done = judged.statements[..at]
+            .iter()
+            .filter(|statement| !statement.is_build())
+            .count();
+        let words = crate::stopped(&table, &list, at);
+        match second::judge::statements_due(&read).get(done) {
+            Some(due) if answer[3] != 0 => {
+                let step = format!("\nstep {}: ", due.step);
+                assert!(
+                    words.starts_with(&format!("statement {at}: ")) && words.contains(&step),
+                    "{words}"
+                );
+                stopped += 1;
+            }
+            _ => assert_eq!(answer[3], 0),
+        }
+    }
+    // Not every table has a run with the ending asked for.
+    assert!(stopped > 300, "{stopped}");
 }

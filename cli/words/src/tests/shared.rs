@@ -1,5 +1,6 @@
 //! Terms and values are graphs: what unfolds to 2^127 nodes and more is written in a bounded length, and at once.
 
+use crate::tests::compiled;
 use crate::writing::LONGEST;
 
 /// 128 terms, each but the first the pair of the one before it with itself; the last one is matched with itself.
@@ -19,14 +20,6 @@ fn deep_values(count: u16) -> Vec<u8> {
         values.extend([2, high, low, high, low]);
     }
     values
-}
-
-/// The compiler's list.
-fn compiled(table: &[u8]) -> Vec<u8> {
-    let (mut out, mut answer) = (vec![0; 30_000], [0; 8]);
-    assert_eq!(ours::compile(table, &mut out, &mut answer), 0);
-    out.truncate(answer[3] as usize);
-    out
 }
 
 #[test]
