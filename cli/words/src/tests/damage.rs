@@ -2,16 +2,16 @@
 
 use generate::{damage, lists, tables, traces, Damage, ListKind, Rng, TableKind, TraceKind};
 
+use crate::codes::FILES;
 use crate::library;
 use crate::list::List;
 use crate::table::Table;
 use crate::tests::{example, run, ENOUGH};
 use crate::trace::Trace;
-use crate::writing::LONGEST;
 
-/// No line has more than a handful of terms in it.
+/// No line has more than a handful of terms in it, each of 200 characters at most.
 fn bounded(words: &str) {
-    assert!(words.lines().all(|line| line.len() < 8 * LONGEST), "{words}");
+    assert!(words.lines().all(|line| line.len() < 1_600), "{words}");
     assert!(words.is_empty() || words.ends_with('\n'));
 }
 
@@ -203,4 +203,32 @@ fn a_run_stops_at_the_step_of_its_statement() {
     }
     // Not every table has a run with the ending asked for.
     assert!(stopped > 300, "{stopped}");
+}
+
+/// Every count at its limit and one above it.
+#[test]
+fn limits() {
+    let mut over = 0;
+    for file in &FILES {
+        for count in file.counts {
+            for number in [count.limit, count.limit + 1] {
+                let mut bytes = [file.mark, &[0, 1][..], &[0; 5]].concat();
+                bytes.truncate(file.header);
+                bytes[count.at + count.bytes - 1] = number as u8;
+                if count.bytes == 2 {
+                    bytes[count.at] = (number / 256) as u8;
+                }
+                same_faults(&bytes, &bytes, &bytes);
+                let shown = [
+                    crate::table(&bytes),
+                    crate::list(&bytes, None),
+                    crate::trace(&bytes, None),
+                ];
+                let is_over = shown.iter().any(|words| words.starts_with("refused 3 "));
+                assert_eq!(is_over, number > count.limit);
+                over += usize::from(is_over);
+            }
+        }
+    }
+    assert_eq!(over, 8);
 }

@@ -1,7 +1,9 @@
 //! Terms and values are graphs: what unfolds to 2^127 nodes and more is written in a bounded length, and at once.
 
 use crate::tests::compiled;
-use crate::writing::LONGEST;
+
+/// A term or value has this many characters at most, and then `..`.
+const LONGEST: usize = 200;
 
 /// 128 terms, each but the first the pair of the one before it with itself; the last one is matched with itself.
 fn deep_table() -> Vec<u8> {
