@@ -40,7 +40,7 @@ _mirvashol() {
     esac
 
     # Options, unless `--` has ended them.
-    local i ended= place=0
+    local i ended="" place=0
     for ((i = 2; i < COMP_CWORD; i++)); do
         case ${COMP_WORDS[i]} in
         --) ended=yes ;;

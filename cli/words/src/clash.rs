@@ -7,7 +7,7 @@
 
 use std::rc::Rc;
 
-use crate::codes::{find, Holds, Want, SORTS, STEP_FIELDS, TERM_FIELDS, TYPES};
+use crate::codes::{find, lies_below, Holds, Want, SORTS, STEP_FIELDS, TERM_FIELDS, TYPES};
 use crate::table::{Step, Table};
 use crate::writing::filled;
 
@@ -188,12 +188,6 @@ fn side(wanted: &Type) -> Side {
         code: wanted.code,
         why: Rc::clone(&wanted.why),
     }
-}
-
-/// Whether every type of this code lies below the other code's, which has no parts.
-fn lies_below(code: u8, other: u8) -> bool {
-    let above = |&code: &u8| find(TYPES, code, u16::MAX)?.below;
-    std::iter::successors(Some(code), above).any(|code| code == other)
 }
 
 /// The widest type below both; or the two sides that have none, and the path to them.

@@ -118,8 +118,7 @@ impl<'a> Judging<'a> {
             ];
         };
         let due = self.due_words(index).map(|words| format!("due is: {words}"));
-        let step = self.table.step_line(step).map(|line| format!("for {line}"));
-        due.into_iter().chain(step).collect()
+        due.into_iter().chain(self.table.step_line(step)).collect()
     }
 
     /// Number 12 in words.
@@ -143,7 +142,7 @@ impl<'a> Judging<'a> {
 
     /// Number 13 in words.
     pub fn early(&self, done: usize) -> Vec<String> {
-        let mut lines = vec!["every statement is right so far, and one more is due".to_string()];
+        let mut lines = vec!["every statement is right, and more is due".to_string()];
         lines.extend(self.due_lines(done));
         lines
     }

@@ -209,14 +209,14 @@ fn of_start(place: u64, files: &Files) -> Option<Vec<String>> {
             .then(|| vec![format!("the trace has {there}, and the table {wanted}{which}")]);
     }
     let (&symbol, &value) = (free.get(place)?, trace.starting.get(place)?);
-    let wanted = short_type(types.get(symbol)?, table.version);
-    Some(vec![
-        format!("starting value {place} is for s{symbol}, whose type is {wanted}"),
-        format!(
-            "it is value {value}, {}, which lacks that type",
-            trace.values.value(value)
-        ),
-    ])
+    let wanted = types.get(symbol)?;
+    (!trace.values.visibly_has(value, wanted)).then(|| {
+        let (wanted, value_words) = (short_type(wanted, table.version), trace.values.value(value));
+        vec![
+            format!("starting value {place} is for s{symbol}, whose type is {wanted}"),
+            format!("it is value {value}, {value_words}, which lacks that type"),
+        ]
+    })
 }
 
 /// Number 15. Which buffer it is shows only for a run.

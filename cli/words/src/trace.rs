@@ -1,6 +1,6 @@
 //! A trace, and a run's values and messages, read as far as their entries are well formed, and in words.
 
-use crate::codes::{file, find, TermCode, ATOM, ATOMS, DIRECTIONS, TERMS, TERM_FIELDS};
+use crate::codes::{file, find, lies_below, TermCode, ATOM, ATOMS, DIRECTIONS, TERMS, TERM_FIELDS, TYPES};
 use crate::entries::{entry, header, length_fault, opening, unknown, wide, wrong_field, Bounds, Fault, Header};
 use crate::library;
 use crate::table::{beside, Table};
@@ -87,6 +87,36 @@ impl Values {
     /// A value written out, in a bounded length.
     pub fn value(&self, index: usize) -> String {
         written(self, index)
+    }
+
+    /// Whether a value visibly has a type. The walk goes along the type's bytes; what no one sees may be anything.
+    pub fn visibly_has(&self, index: usize, bytes: &[u8]) -> bool {
+        let mut pending = vec![Some(index)];
+        bytes.iter().all(|&code| {
+            let (Some(row), Some(here)) = (find(TYPES, code, self.version), pending.pop()) else {
+                return false;
+            };
+            let (has, parts) = match here {
+                Some(value) => self.visible(value),
+                None => (Some(code), Vec::new()),
+            };
+            let part = |i: usize| parts.get(i).copied().filter(|_| row.seen);
+            pending.extend((0..row.parts.len()).rev().map(part));
+            has.is_some_and(|has| lies_below(has, code))
+        })
+    }
+
+    /// The code of the lowest type that a value visibly has, and the values of that type's parts.
+    fn visible(&self, index: usize) -> (Option<u8>, Vec<usize>) {
+        match self.all.get(index) {
+            Some(Value::Atom { kind, .. }) => (find(ATOMS, *kind, self.version).map(|kind| kind.has), Vec::new()),
+            Some(Value::Made { code, parts }) => {
+                let (has, fields) = find(TERMS, *code, self.version).and_then(|row| row.gives).unzip();
+                let fields = fields.unwrap_or(&[]).iter();
+                (has, fields.map(|&field| parts[field]).collect())
+            }
+            None => (None, Vec::new()),
+        }
     }
 
     fn rows(&self) -> Vec<Vec<String>> {

@@ -232,3 +232,29 @@ fn limits() {
     }
     assert_eq!(over, 8);
 }
+
+#[test]
+fn what_values_visibly_have() {
+    let mut has = [0; 2];
+    for seed in 0..300 {
+        let mut rng = Rng::new(seed);
+        let table = tables::some_typed(&mut rng);
+        let types = library::types(&table).expect("types");
+        let list = lists::accepted(&mut rng, &table).expect("a list");
+        let kind = TraceKind::Ending(rng.within(0, 5) as u8);
+        let Some(trace) = traces::trace(&mut rng, &table, &list, kind) else {
+            continue;
+        };
+        let theirs = second::read_trace::read_trace(&trace).expect("a trace");
+        let ours = Trace::read(&trace);
+        for value in 0..theirs.values.len() {
+            for one in &types {
+                let wanted = second::types::Type::read(one).expect("a type");
+                let visibly = second::trace::visibly_has(&theirs.values, value, &wanted);
+                assert_eq!(ours.values.visibly_has(value, one), visibly);
+                has[usize::from(visibly)] += 1;
+            }
+        }
+    }
+    assert!(has.iter().all(|&times| times > 1_000), "{has:?}");
+}

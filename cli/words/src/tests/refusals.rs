@@ -162,6 +162,7 @@ fn nothing_is_said_that_the_files_do_not_bear_out() {
             assert_eq!(crate::refusal(number, file, 0, &table, Some(&list), None), "");
         }
     }
+    assert_eq!(crate::refusal(14, 2, 0, &table, Some(&list), Some(&file("e1.spx"))), "");
     assert_eq!(crate::refusal(16, 0, 0, &table, None, None), "");
     assert_eq!(crate::refusal(12, 1, 6, &table, None, None), "");
 }
