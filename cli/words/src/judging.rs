@@ -7,8 +7,8 @@ use crate::writing::filled;
 
 /// A list and its table, with what each register means: the meaning, and its term where the table has it.
 pub struct Judging<'a> {
-    pub table: &'a Table,
-    pub list: &'a List,
+    table: &'a Table,
+    list: &'a List,
     /// How many free symbols there are.
     free: usize,
     registers: Registers,
