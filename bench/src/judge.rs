@@ -1,6 +1,7 @@
 //! Judging a list against a table.
 
 use generate::raw::RawList;
+use mirvashol::raw;
 use second::service;
 
 use crate::inputs::{shared_terms, TYPICAL_LIST, TYPICAL_TABLE};
@@ -12,7 +13,7 @@ pub fn rows() -> Vec<Row> {
         let (again, and_list, mut answer) = (table.clone(), list.clone(), [0; 8]);
         Row {
             input,
-            ours: Box::new(move || ours::judge(&table, &list, &mut answer).into()),
+            ours: Box::new(move || raw::judge(&table, &list, &mut answer).into()),
             second: Box::new(move || service::judge(&again, &and_list)[0]),
         }
     };

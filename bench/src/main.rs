@@ -2,7 +2,7 @@
 //! the faster one.
 //!
 //! `bench [SERVICE..]` measures the named services, or all. Not part of the gate: the figures depend on what else runs.
-//! A further service is one further module with its `rows`, its line in `SERVICES`, and its name in `./mirvashol`.
+//! A further service is one further module with its `rows`, its line in `SERVICES`, and its name in `tools/bench`.
 
 mod inputs;
 mod judge;

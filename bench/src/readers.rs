@@ -1,5 +1,6 @@
 //! The readers of the three files, and the part of a list that holds a type.
 
+use mirvashol::raw;
 use second::service;
 
 use crate::inputs::{full_trace, longest_bytes, shared_terms, TYPICAL_LIST, TYPICAL_TABLE, TYPICAL_TRACE};
@@ -10,7 +11,7 @@ pub fn check_table() -> Vec<Row> {
         let (again, mut answer) = (table.clone(), [0; 8]);
         Row {
             input,
-            ours: Box::new(move || ours::check_table(&table, &mut answer).into()),
+            ours: Box::new(move || raw::check_table(&table, &mut answer).into()),
             second: Box::new(move || service::check_table(&again)[0]),
         }
     };
@@ -25,7 +26,7 @@ pub fn check_list() -> Vec<Row> {
         let (again, mut answer) = (list.clone(), [0; 8]);
         Row {
             input,
-            ours: Box::new(move || ours::check_list(&list, 5, &mut answer).into()),
+            ours: Box::new(move || raw::check_list(&list, 5, &mut answer).into()),
             second: Box::new(move || service::check_list(&again, 5)[0]),
         }
     };
@@ -40,7 +41,7 @@ pub fn check_trace() -> Vec<Row> {
         let (again, mut answer) = (trace.clone(), [0; 8]);
         Row {
             input,
-            ours: Box::new(move || ours::check_trace(&trace, &mut answer).into()),
+            ours: Box::new(move || raw::check_trace(&trace, &mut answer).into()),
             second: Box::new(move || service::check_trace(&again)[0]),
         }
     };
@@ -55,7 +56,7 @@ pub fn type_of() -> Vec<Row> {
         let (again, mut answer) = (list.clone(), [0; 8]);
         Row {
             input,
-            ours: Box::new(move || ours::type_of(&list, symbol, &mut answer).into()),
+            ours: Box::new(move || raw::type_of(&list, symbol, &mut answer).into()),
             second: Box::new(move || service::type_of(&again, symbol)[0]),
         }
     };

@@ -1,5 +1,6 @@
 //! Running a judged list on a trace.
 
+use mirvashol::raw;
 use second::service;
 
 use crate::inputs::{full_trace, tower, TYPICAL_LIST, TYPICAL_TABLE, TYPICAL_TRACE};
@@ -17,7 +18,7 @@ pub fn rows() -> Vec<Row> {
         let ((mut values, mut log), (mut others, mut other_log)) = (buffers(), buffers());
         Row {
             input,
-            ours: Box::new(move || ours::run(&table, &list, &trace, &mut values, &mut log, &mut answer).into()),
+            ours: Box::new(move || raw::run(&table, &list, &trace, &mut values, &mut log, &mut answer).into()),
             second: Box::new(move || service::run(&again, &and_list, &and_trace, &mut others, &mut other_log)[0]),
         }
     };

@@ -1,6 +1,7 @@
 //! Typing and compiling a table.
 
 use generate::raw::RawTable;
+use mirvashol::raw;
 use second::{service, Answer};
 
 use crate::inputs::{shared_terms, TYPICAL_TABLE};
@@ -10,11 +11,11 @@ use crate::measure::Row;
 pub const LONGEST_LIST: usize = 8 + 96 * 256 + 4 * 512;
 
 pub fn type_table() -> Vec<Row> {
-    rows(ours::type_table, service::type_table)
+    rows(raw::type_table, service::type_table)
 }
 
 pub fn compile() -> Vec<Row> {
-    rows(ours::compile, service::compile)
+    rows(raw::compile, service::compile)
 }
 
 fn rows(ours: fn(&[u8], &mut [u8], &mut [u64]) -> u8, second: fn(&[u8], &mut [u8]) -> Answer) -> Vec<Row> {

@@ -1,6 +1,7 @@
 //! Reading a list, given the number of free symbols: numbers 1 to 5, or S, N and the offset of the first statement.
 
 use generate::Rng;
+use mirvashol::raw;
 use second::refusal::LIST;
 
 use crate::compare::{compare, nothing_further};
@@ -27,7 +28,7 @@ fn case(rng: &mut Rng) -> Case {
         &inputs.bytes(),
         &[],
         |files, _| second::service::check_list(files[0], free),
-        |files, _, answer| ours::check_list(files[0], free, answer),
+        |files, _, answer| raw::check_list(files[0], free, answer),
         nothing_further,
     );
     let difference = compared.difference.map(|words| format!("free {free}: {words}"));

@@ -1,6 +1,7 @@
 //! Reading a table: numbers 1 to 9, or S, T and P.
 
 use generate::Rng;
+use mirvashol::raw;
 use second::refusal::TABLE;
 
 use crate::compare::{compare, nothing_further};
@@ -20,7 +21,7 @@ fn case(rng: &mut Rng) -> Case {
         &inputs.bytes(),
         &[],
         |files, _| second::service::check_table(files[0]),
-        |files, _, answer| ours::check_table(files[0], answer),
+        |files, _, answer| raw::check_table(files[0], answer),
         nothing_further,
     );
     inputs.case(&compared.answer, compared.difference)

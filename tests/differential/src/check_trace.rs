@@ -1,6 +1,7 @@
 //! Reading a trace: numbers 1 to 6, or V, K and F.
 
 use generate::Rng;
+use mirvashol::raw;
 use second::refusal::TRACE;
 
 use crate::compare::{compare, nothing_further};
@@ -20,7 +21,7 @@ fn case(rng: &mut Rng) -> Case {
         &inputs.bytes(),
         &[],
         |files, _| second::service::check_trace(files[0]),
-        |files, _, answer| ours::check_trace(files[0], answer),
+        |files, _, answer| raw::check_trace(files[0], answer),
         nothing_further,
     );
     inputs.case(&compared.answer, compared.difference)

@@ -1,6 +1,7 @@
 //! Compiling a table: numbers 1 to 10 and 15, or the list's bytes in the lent buffer.
 
 use generate::Rng;
+use mirvashol::raw;
 
 use crate::lent::{case_with_buffer, owed};
 use crate::service::{Case, Service};
@@ -12,5 +13,5 @@ pub const SERVICE: Service = Service {
 };
 
 fn case(rng: &mut Rng) -> Case {
-    case_with_buffer(rng, second::service::compile, ours::compile)
+    case_with_buffer(rng, second::service::compile, raw::compile)
 }

@@ -1,12 +1,13 @@
 //! The exported functions as the marked examples ask for them. Each gives its answer's number as a code too.
 
 use marked::{Answer, Services};
+use mirvashol::raw;
 
 pub const EXPORTED: Services = Services {
-    types: |table, out| answered(|answer| ours::type_table(table, out, answer)),
-    compile: |table, out| answered(|answer| ours::compile(table, out, answer)),
-    judge: |table, list| answered(|answer| ours::judge(table, list, answer)),
-    run: |table, list, trace, values, log| answered(|answer| ours::run(table, list, trace, values, log, answer)),
+    types: |table, out| answered(|answer| raw::type_table(table, out, answer)),
+    compile: |table, out| answered(|answer| raw::compile(table, out, answer)),
+    judge: |table, list| answered(|answer| raw::judge(table, list, answer)),
+    run: |table, list, trace, values, log| answered(|answer| raw::run(table, list, trace, values, log, answer)),
 };
 
 fn answered(call: impl FnOnce(&mut [u64]) -> u8) -> Answer {

@@ -1,6 +1,7 @@
 //! Judging a list against a table: the table's numbers 1 to 10, the list's 1 to 5, then 11 to 13.
 
 use generate::{Change, ListKind, Rng};
+use mirvashol::raw;
 use second::refusal::{LIST, TABLE};
 
 use crate::compare::{compare, nothing_further};
@@ -26,7 +27,7 @@ fn case(rng: &mut Rng) -> Case {
         &inputs.bytes(),
         &[],
         |files, _| second::service::judge(files[0], files[1]),
-        |files, _, answer| ours::judge(files[0], files[1], answer),
+        |files, _, answer| raw::judge(files[0], files[1], answer),
         nothing_further,
     );
     inputs.case(&compared.answer, compared.difference)

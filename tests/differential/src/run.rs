@@ -1,6 +1,7 @@
 //! Running a judged list on a trace: all refusals, all endings, and both lent buffers. Demand 3 is tested on what both give.
 
 use generate::{Rng, TraceKind};
+use mirvashol::raw;
 use second::bytes::wide;
 use second::demand3;
 use second::refusal::{BUFFER as LENT, LIST, TABLE, TRACE};
@@ -95,7 +96,7 @@ fn second_run(files: &[&[u8]], buffers: &mut [&mut [u8]]) -> Answer {
 
 fn our_run(files: &[&[u8]], buffers: &mut [&mut [u8]], answer: &mut [u64]) -> u8 {
     let [values, log] = buffers else { panic!("two buffers") };
-    ours::run(files[0], files[1], files[2], values, log, answer)
+    raw::run(files[0], files[1], files[2], values, log, answer)
 }
 
 /// What the run needs of each buffer, asked by lending nothing of it and enough of the other.

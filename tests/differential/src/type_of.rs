@@ -1,6 +1,7 @@
 //! The part of a list that holds the type of a symbol. It refuses nothing: the part may be empty.
 
 use generate::Rng;
+use mirvashol::raw;
 
 use crate::compare::{compare, nothing_further};
 use crate::inputs::{a_list, damages, list_kinds};
@@ -32,7 +33,7 @@ fn case(rng: &mut Rng) -> Case {
         &inputs.bytes(),
         &[],
         |files, _| second::service::type_of(files[0], symbol),
-        |files, _, answer| ours::type_of(files[0], symbol, answer),
+        |files, _, answer| raw::type_of(files[0], symbol, answer),
         nothing_further,
     );
     let difference = compared.difference.map(|words| format!("symbol {symbol}: {words}"));

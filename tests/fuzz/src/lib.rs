@@ -1,6 +1,7 @@
 //! What the coverage-guided fuzzer calls (`tools/fuzz`): one input is a table, a list and a trace, and every service of the proved static
 //! library answers it as the second implementation does, to the last byte of the lent buffers. A difference ends the process.
 
+use mirvashol::raw;
 use second::Answer;
 
 /// What the buffers hold before a call, so that a byte that should stay is seen.
@@ -43,17 +44,17 @@ fn same_file(
 /// All services on one input.
 fn compare(table: &[u8], list: &[u8], trace: &[u8]) {
     same("check_table", second::service::check_table(table), |answer| {
-        ours::check_table(table, answer)
+        raw::check_table(table, answer)
     });
     same("check_trace", second::service::check_trace(trace), |answer| {
-        ours::check_trace(trace, answer)
+        raw::check_trace(trace, answer)
     });
     let symbol = table.len() % 100;
     same("type_of", second::service::type_of(list, symbol), |answer| {
-        ours::type_of(list, symbol, answer)
+        raw::type_of(list, symbol, answer)
     });
     same("check_list", second::service::check_list(list, symbol), |answer| {
-        ours::check_list(list, symbol, answer)
+        raw::check_list(list, symbol, answer)
     });
     // Rooms that are long enough, and such as often are not.
     for room in [16_384, 2 * table.len()] {
@@ -61,17 +62,17 @@ fn compare(table: &[u8], list: &[u8], trace: &[u8]) {
             "type",
             room,
             |out| second::service::type_table(table, out),
-            |out, answer| ours::type_table(table, out, answer),
+            |out, answer| raw::type_table(table, out, answer),
         );
         same_file(
             "compile",
             room,
             |out| second::service::compile(table, out),
-            |out, answer| ours::compile(table, out, answer),
+            |out, answer| raw::compile(table, out, answer),
         );
     }
     same("judge", second::service::judge(table, list), |answer| {
-        ours::judge(table, list, answer)
+        raw::judge(table, list, answer)
     });
     let log = if trace.len() % 2 == 0 { 2_568 } else { 15 };
     let (mut a, mut b) = (vec![BEFORE; log], vec![BEFORE; log]);
@@ -79,7 +80,7 @@ fn compare(table: &[u8], list: &[u8], trace: &[u8]) {
         "run",
         7_688,
         |values| second::service::run(table, list, trace, values, &mut a),
-        |values, answer| ours::run(table, list, trace, values, &mut b, answer),
+        |values, answer| raw::run(table, list, trace, values, &mut b, answer),
     );
     assert_eq!(a, b, "run");
 }

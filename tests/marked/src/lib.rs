@@ -17,6 +17,18 @@ const TABLE: &str = include_str!("../examples.txt");
 /// What a lent buffer holds before a call, and beyond what is written after it.
 const FILLED: u8 = 9;
 
+/// The names of the examples' files.
+pub fn names() -> impl Iterator<Item = &'static str> {
+    let named = |line: &'static str| line.strip_prefix("file ")?.split(' ').next();
+    TABLE.lines().filter_map(named)
+}
+
+/// Each row of the table that asks a service: the call, and the answer.
+pub fn rows() -> impl Iterator<Item = (&'static str, &'static str)> {
+    let rows = TABLE.lines().filter(|line| !line.starts_with('#'));
+    rows.filter_map(|row| row.split_once(" = "))
+}
+
 /// The bytes of an example's file.
 pub fn file(name: &str) -> Vec<u8> {
     let start = format!("file {name}");
@@ -38,12 +50,9 @@ fn word(text: &str) -> Vec<u8> {
 
 /// Each row of the table that asks a service, and whether its answer is the one there.
 pub fn tried(services: &Services) -> Vec<(&'static str, bool)> {
-    let rows = TABLE.lines().filter(|line| !line.starts_with('#'));
-    rows.filter_map(|row| {
-        let (call, expected) = row.split_once(" = ")?;
-        Some((row, holds(services, call, expected)))
-    })
-    .collect()
+    rows()
+        .map(|(call, expected)| (call, holds(services, call, expected)))
+        .collect()
 }
 
 fn holds(services: &Services, call: &str, expected: &str) -> bool {

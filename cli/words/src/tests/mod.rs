@@ -19,21 +19,21 @@ fn example(name: &str) -> Vec<u8> {
 fn run(table: &[u8], list: &[u8], trace: &[u8], room: [usize; 2]) -> ([u64; 8], [Vec<u8>; 2]) {
     let mut answer = [0; 8];
     let [mut values, mut log] = room.map(|bytes| vec![0; bytes]);
-    ours::run(table, list, trace, &mut values, &mut log, &mut answer);
+    mirvashol::raw::run(table, list, trace, &mut values, &mut log, &mut answer);
     (answer, [values, log])
 }
 
 /// The proved library's answer to a list.
 fn judge(table: &[u8], list: &[u8]) -> [u64; 8] {
     let mut answer = [0; 8];
-    ours::judge(table, list, &mut answer);
+    mirvashol::raw::judge(table, list, &mut answer);
     answer
 }
 
 /// The compiler's list.
 fn compiled(table: &[u8]) -> Vec<u8> {
     let (mut out, mut answer) = (vec![0; 30_000], [0; 8]);
-    assert_eq!(ours::compile(table, &mut out, &mut answer), 0);
+    assert_eq!(mirvashol::raw::compile(table, &mut out, &mut answer), 0);
     out.truncate(answer[3] as usize);
     out
 }

@@ -1,2 +1,0 @@
--- What the promises of `judge` speak of.
-pub mod Printed
