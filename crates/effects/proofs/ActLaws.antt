@@ -19,13 +19,14 @@ use Rattle.value_table.specs.Values.{tableAt, tagAt}
 use Rattle.value_table.specs.Kept.{Kept}
 use Rattle.value_table.proofs.Reading.{tag-small, entry-atom, entry-pair, entry-seal}
 use Rattle.value_table.proofs.Keeping.{kept-table}
-use Rattle.run_parts.specs.Registers.{Given, freshIn, Gives}
+use Rattle.run_parts.specs.Registers.{Given, Gives}
 use Rattle.run_parts.specs.Messages.{directionNumber, Said, Says}
 use Rattle.run_parts.specs.Supply.{Left}
 use Rattle.run_parts.specs.Types.{Passes}
-use Rattle.run_parts.proofs.RegisterLaws.{given-symbol, fresh-right}
+use Rattle.run_parts.proofs.RegisterLaws.{given-symbol}
 use Rattle.run_parts.proofs.KeptLaws.{supply-none, supply-first, supply-next, passes-kept}
-use Rattle.effects.specs.Effects.{acting, Keeps, Comes, comes-on, comes-end, Does}
+use Rattle.freshness.specs.Fresh.{FreshBy}
+use Rattle.effects.specs.Effects.{acting, Keeps, Room, Comes, comes-on, comes-end, Does}
 use Rattle.effects.specs.declared.State.{State}
 use Rattle.effects.specs.declared.Step.the-variants.{Next, Stop}
 
@@ -128,12 +129,17 @@ module _ (l tr w g : List ℕ) (s : State) (x : ℕ) where
       does = λ As i z y es rs su ms k r. rw (supply-first (k .left) h e, atom-not-there (k .kept) v t a d) (comes-end refl (kept-end k));
     }
 
-    module _ (d : t ≡ 0) (f : Bool) (q : f ≡ freshIn g (s .registers) v) where
+    module _ (d : t ≡ 0) (f : Bool) (q : FreshBy w (s .count) g (s .registers) v f) where
+      -- what the test says of what is kept
+      fresh-is : {z y : List ℕ} {es : List (Entry signature1 Atom)} {rs : List (Register ℕ)} {su : List ℕ} {ms : List (Logged ℕ)} {o : List ℕ} → Keeps tr z y es rs su ms w o g s → Room 0 0 z y es rs ms
+          → isFresh signature1 (index signature1 es) (held rs) v ≡ f
+      fresh-is {z} {es = es} {rs = rs} k r = sym (q .answer z es rs (k .kept) (k .given) (omega (arith, r .few-values)))
+
       pub fresh-held : f ≡ false → (o : List ℕ) → Does 0 0 (acting (fresh x)) l tr w w o o g g s (Stop 6 (onward (s .registers)))
       unfolding acting perform inRegisters numberOf
       fresh-held j o = record {
         does = λ As i z y es rs su ms k r.
-            let b : isFresh signature1 (index signature1 es) (held rs) v ≡ false = sym (fresh-right es v (k .given)) ∙ sym q ∙ j in
+            let b : isFresh signature1 (index signature1 es) (held rs) v ≡ false = fresh-is k r ∙ j in
             rw (supply-first (k .left) h e, atom-there (k .kept) v t a d, b) (comes-end refl (kept-end k));
       }
 
@@ -143,7 +149,7 @@ module _ (l tr w g : List ℕ) (s : State) (x : ℕ) where
         unfolding acting perform passes inRegisters
         fresh-passes u i g′ n m o = record {
           does = λ As c z y es rs su ms k r.
-              let b′ : isFresh signature1 (index signature1 es) (held rs) v ≡ true = sym (fresh-right es v (k .given)) ∙ sym q ∙ j in
+              let b′ : isFresh signature1 (index signature1 es) (held rs) v ≡ true = fresh-is k r ∙ j in
               rw (supply-first (k .left) h e, atom-there (k .kept) v t a d, b′, passes-kept As c (k .kept) p, i)
               (goes-on (k .kept) (rw (append-nil ms) (k .said)) (given-symbol v u m (k .given) (omega (arith, k .given .count, r .few-registers))) (supply-next tr (s .used) h));
         }
@@ -152,7 +158,7 @@ module _ (l tr w g : List ℕ) (s : State) (x : ℕ) where
         unfolding acting perform passes inRegisters numberOf
         fresh-untyped i o = record {
           does = λ As c z y es rs su ms k r.
-              let b′ : isFresh signature1 (index signature1 es) (held rs) v ≡ true = sym (fresh-right es v (k .given)) ∙ sym q ∙ j in
+              let b′ : isFresh signature1 (index signature1 es) (held rs) v ≡ true = fresh-is k r ∙ j in
               rw (supply-first (k .left) h e, atom-there (k .kept) v t a d, b′, passes-kept As c (k .kept) p, i) (comes-end refl (kept-end k));
         }
 

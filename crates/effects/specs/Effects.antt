@@ -57,7 +57,7 @@ pub record Keeps (tr z y : List ℕ) (es : List (Entry signature1 Atom)) (rs : L
 pub record Room (b m : ℕ) (z y : List ℕ) (es : List (Entry signature1 Atom)) (rs : List (Register ℕ)) (ms : List (Logged ℕ)) : Type 0 where
   pub value-room : 5 * (length es + b) ≤ length z
   pub message-room : 5 * (length ms + m) ≤ length y
-  pub few-values : length es + b ≤ 65535
+  pub few-values : length es + b ≤ 1536
   pub few-messages : length ms + m ≤ 65535
   pub few-registers : length rs < 608
 

@@ -101,7 +101,7 @@ pub fn fresh(
     if value_table::tag_at(values, s.count, v) != 0 {
         return Step::Stop(6, after);
     }
-    if !run_parts::is_fresh(registers, s.registers, v) {
+    if !freshness::is_fresh(values, s.count, registers, s.registers, v) {
         return Step::Stop(6, after);
     }
     if run_parts::passes(list, x, values, s.count, v) {

@@ -1,12 +1,11 @@
 -- The registers of a run in an array of numbers. Assumes nothing: these are definitions.
 use mathlib.Core.Path.{_≡_}
-use mathlib.Core.Bool.{Bool, cond, not}
+use mathlib.Core.Bool.{cond}
 use mathlib.Core.List.{List, [], _∷_, _++_, map}
 use Prim.Native.Nat.{ℕ, _+_, _*_, _/_, _%_, _<_}
-use lib.Dec.{ltb, eqb}
+use lib.Dec.{ltb}
 use lib.ListN.{length, take, getD}
-use Rattle.base.specs.Pick.{pick, both}
-use Rattle.base.specs.Search.{first, allRight}
+use Rattle.base.specs.Pick.{pick}
 use Rattle.running.specs.Lists.{Register}
 
 -- a register as a number: twice the index of its value, and 1 more where it means a symbol
@@ -23,14 +22,6 @@ pub record Given (rs : List (Register ℕ)) (g : List ℕ) (n : ℕ) : Type 0 wh
 -- the value in register p of the first n; 0 past them
 unfoldable pub valueIn : List ℕ → ℕ → ℕ → ℕ
 valueIn g n p = pick (ltb p n) (getD g p 0 / 2 % 65536) 0
-
--- register i means a symbol and holds v
-unfoldable pub heldIn : List ℕ → ℕ → ℕ → Bool
-heldIn g v i = both (ltb i 608) (eqb (getD g i 0) (2 * v + 1))
-
--- v differs from every value that the first n registers hold for symbols
-unfoldable pub freshIn : List ℕ → ℕ → ℕ → Bool
-freshIn g n v = allRight (first (λ i. not (heldIn g v i)) 0 n)
 
 -- whatever registers are given, one more is, if there is room for it
 pub record Gives (g : List ℕ) (n number : ℕ) (o : List ℕ) (r : ℕ) : Type 0 where

@@ -4,7 +4,7 @@
 // Nothing is asked of the caller: registers that are not given hold value 0, and what has no room is not written.
 ghost use mathlib.Core.Path.{_≡_};
 ghost use Rattle.trace.specs.Layout.{supply};
-ghost use Rattle.run_parts.specs.Registers.{valueIn, heldIn, freshIn, Gives};
+ghost use Rattle.run_parts.specs.Registers.{valueIn, Gives};
 ghost use Rattle.run_parts.specs.Messages.{Says};
 ghost use Rattle.run_parts.specs.Types.{Passes};
 
@@ -29,30 +29,6 @@ pub fn give(registers: &mut [u32; 608], given: u16, number: u32) -> u16
         return given + 1;
     }
     given
-}
-
-// Register i means a symbol and holds v.
-fn is_held(registers: &[u32; 608], i: u16, v: u16) -> bool
-    ensures { λ r. ⌜ r ≡ heldIn (now (registers .entry)) v i ⌝ }
-{
-    if i < 608 {
-        return registers[i as usize] == 2 * v as u32 + 1;
-    }
-    false
-}
-
-// v differs from every value in a register that means a symbol.
-pub fn is_fresh(registers: &[u32; 608], given: u16, v: u16) -> bool
-    ensures { λ r. ⌜ r ≡ freshIn (now (registers .entry)) given v ⌝ }
-{
-    let mut i = 0;
-    while i < given {
-        if is_held(registers, i, v) {
-            return false;
-        }
-        i += 1;
-    }
-    true
 }
 
 // ── Messages, types, supply ──

@@ -18,13 +18,13 @@ use Rattle.rendering.proofs.FreeLaws.{free-and-bound}
 use Rattle.running.specs.Acts.{Tests, Ending, finished, numberOf, typed, untyped, Result}
 use Rattle.running.specs.Lists.{symbolRegister, run, trees}
 use Rattle.running.specs.Processes.{Bindings, runProcess, StuckBy, Ends, ends-finished, ends-stuck}
-use Rattle.running.specs.Demand3.{ByType, by-received, by-opened, by-fresh, stepOf, Trace, valueOf, supplied, CheckedTrace, typesOf, Starts, starts-nil, starts-cons, bindAll, listRun, start, said, leftOver, stoppedAt, Lacking, Demand3, OneSealEach, VisibleByIndex, AcceptedListsKeepDemand3, Demand3Holds, ListsRunAsProcesses, ListsAgree, BuffersSuffice}
+use Rattle.running.specs.Demand3.{ByType, by-received, by-opened, by-fresh, stepOf, Trace, valueOf, supplied, CheckedTrace, typesOf, Starts, starts-nil, starts-cons, bindAll, listRun, start, said, leftOver, stoppedAt, Lacking, Demand3, OneSealEach, VisibleByIndex, FreshByIndex, AcceptedListsKeepDemand3, Demand3Holds, ListsRunAsProcesses, ListsAgree, BuffersSuffice}
 use Rattle.running.proofs.Registers.{Bound, symbolsOf, Match, symbolRegisters, held-symbols, new-match}
 use Rattle.running.proofs.Simulation.{Walk, walk, Same, level, simulates}
-use Rattle.running.proofs.Rules.{process-by-rules}
+use Rattle.running.proofs.Rules.{fresh-all, all-fresh, process-by-rules}
 use Rattle.running.proofs.Types.{Fit, Fitted, fitted-match, safe}
 use Rattle.running.proofs.Opening.{opens}
-use Rattle.running.proofs.Seen.{visible-seen}
+use Rattle.running.proofs.Seen.{visible-seen, fresh-seen}
 use Rattle.running.proofs.Under.{onRegister}
 use Rattle.running.proofs.Mirror.{Mirrors, mirror}
 
@@ -84,6 +84,11 @@ module _ (𝓢 : Signature) where
 
   pub visible-by-index : VisibleByIndex 𝓢
   visible-by-index es low once A i h = visible-seen 𝓢 es low once A i h
+
+  pub fresh-by-index : FreshByIndex 𝓢
+  fresh-by-index es low once held i hs h =
+      let e = fresh-seen 𝓢 es low once hs i h in
+      (λ t. fresh-all 𝓢 (map (valueOf 𝓢 es) held) (valueOf 𝓢 es i) (e ∙ t), λ f. sym e ∙ all-fresh 𝓢 (valueOf 𝓢 es i) f)
 
   pub lists-run-as-processes : ListsRunAsProcesses 𝓢
   lists-run-as-processes v t ts ss tr c f k q =

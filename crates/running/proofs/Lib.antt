@@ -3,6 +3,7 @@ pub mod Registers
 pub mod Binding
 pub mod Places
 pub mod Simulation
+pub mod Occurrence
 pub mod Rules
 pub mod Types
 pub mod Opening

@@ -10,7 +10,8 @@ use Rattle.calculus.specs.Signature.{Signature, pairing, seal, Fit, itself, twi
 use Rattle.calculus.specs.Terms.{Atom, leaf, one, two, Term, Value, sameValue, send, receive, fresh, compare, split, decrypt, mapAct, Step, Process}
 use Rattle.calculus.specs.Scope.{all-nil, all-cons}
 use Rattle.rendering.proofs.Base.{decided, decides, and-left, and-right, and-both}
-use Rattle.running.specs.Values.{FreshDecided, Fresh, isFresh, isAtom, pairParts, partOf, sameParts, turns, inside, locked, unsealed, openShape, treeShape, tree}
+use Rattle.running.proofs.Occurrence.{occurs-found, found-occurs}
+use Rattle.running.specs.Values.{FreshDecided, Fresh, isFresh, isAtom, pairParts, partOf, sameParts, turns, inside, locked, unsealed, openShape, treeShape, occursIn, tree}
 use Rattle.running.specs.Acts.{Ending, not-equal, not-fresh, Logged, Out, goes, stops, untyped, passes, splitting, opening, perform, Result, andThen}
 use Rattle.running.specs.Processes.{Bindings, valuesOf, eval, runProcess, Fitting, fits-itself, fits-twins, Moves, moves-out, moves-in, moves-new, moves-match, moves-split, moves-open, StuckBy, stuck-in, stuck-new, stuck-fresh, stuck-match, stuck-split, stuck-key, stuck-seal, Reaches, stays, moves, Ends, ends-finished, ends-stuck, StuckCannotMove, ProcessByRules, RulesGiveOneAnswer}
 
@@ -23,19 +24,16 @@ module _ (𝓢 : Signature) where
   pub fresh-all : (held : List Val) (v : Val) → isFresh 𝓢 (tree 𝓢) held v ≡ true → Fresh 𝓢 held v
   unfolding isFresh
   fresh-all [] v h = all-nil
-  fresh-all (w ∷ held) v h = all-cons (go (sameValue 𝓢 v w) (and-left (not (decide (sameValue 𝓢 v w))) _ h)) (fresh-all held v (and-right (not (decide (sameValue 𝓢 v w))) _ h))
-    where
-      go : (d : Dec (v ≡ w)) → not (decide d) ≡ true → v ≡ w → ⊥
-      go d h e = false≢true (sym (ap not (decides d e)) ∙ h)
+  fresh-all (w ∷ held) v h = all-cons (λ o. false≢true (sym (ap not (occurs-found 𝓢 o)) ∙ and-left (not (occursIn 𝓢 v w)) _ h)) (fresh-all held v (and-right (not (occursIn 𝓢 v w)) _ h))
 
   pub all-fresh : {held : List Val} (v : Val) → Fresh 𝓢 held v → isFresh 𝓢 (tree 𝓢) held v ≡ true
-  unfolding isFresh decide
+  unfolding isFresh
   all-fresh v all-nil = refl
-  all-fresh v (all-cons {x = w} n ns) = and-both (go (sameValue 𝓢 v w)) (all-fresh v ns)
+  all-fresh v (all-cons {x = w} n ns) = and-both (go (occursIn 𝓢 v w) refl) (all-fresh v ns)
     where
-      go : (d : Dec (v ≡ w)) → not (decide d) ≡ true
-      go (yes e) = absurd (n e)
-      go (no m) = refl
+      go : (b : Bool) → occursIn 𝓢 v w ≡ b → not b ≡ true
+      go true e = absurd (n (found-occurs 𝓢 v w e))
+      go false e = refl
 
   part-of : (c : 𝓢 .One) (v w : Val) → partOf 𝓢 c (treeShape 𝓢 v) ≡ some w → v ≡ one c w
   unfolding partOf treeShape decide

@@ -1,14 +1,14 @@
 -- What is seen of an index of a sound value table is what is seen of the value that it stands for; so an act does the same over both.
 -- Assumes nothing.
 use mathlib.Core.Path.{_≡_, refl, sym, ap, _∙_, subst}
-use mathlib.Core.Bool.{Bool, true, false, cond, _&&_, decide}
+use mathlib.Core.Bool.{Bool, true, false, cond, _&&_, _||_, decide}
 use mathlib.Core.Option.{Option, none, some, Option·map}
 use mathlib.Core.List.{List, [], _∷_, map}
-use Prim.Native.Nat.{ℕ, _<_}
+use Prim.Native.Nat.{ℕ, zero, suc, _<_}
 use native.Mathlib.Omega.{arith}
-use lib.Dec.{eqb}
+use lib.Dec.{ltb, eqb}
 use lib.ListN.{length}
-use borrow.Author.Tests.{eq-eqb, ne-eqb}
+use borrow.Author.Tests.{lt-ltb, eq-eqb, ne-eqb}
 use Rattle.types.specs.Types.{Ty, Message, Basic, Cipher, Pair}
 use Rattle.calculus.specs.Signature.{Signature, pairing, seal, Fit, itself, twins}
 use Rattle.calculus.specs.Terms.{Atom, atom, Value, sameValue, build1, build2, mapBuild, built, Act, send, receive, fresh, compare, split, decrypt, mapAct, operands}
@@ -16,7 +16,8 @@ use Rattle.calculus.specs.Tables.{Entry, leafEntry, kindEntry, entryTree, entry
 use Rattle.calculus.specs.Scope.{All, all-nil, all-cons}
 use Rattle.calculus.proofs.TableLaws.{denoted-by-entries, equal-trees-equal-indexes}
 use Rattle.rendering.proofs.Base.{decides, denies}
-use Rattle.running.specs.Values.{View, Shape, atomic, compound, basicShape, pairShape, cipherShape, visible, isFresh, isAtom, pairParts, partOf, sameParts, turns, Opening, inside, locked, unsealed, openShape, treeShape, tree, entryShape, index}
+use Rattle.running.proofs.Occurrence.{any-same, any-map, occurs-by-parts, occurs-at}
+use Rattle.running.specs.Values.{View, Shape, atomic, compound, basicShape, pairShape, cipherShape, visible, isFresh, isAtom, pairParts, partOf, sameParts, turns, Opening, inside, locked, unsealed, openShape, treeShape, partsOf, occursIn, tree, entryShape, occursAt, index}
 use Rattle.running.specs.Acts.{Both, both, not-equal, received-lacks, opened-lacks, not-fresh, fresh-lacks, logged, onLogged, Out, goes, stops, Tests, typed, untyped, passes, binding, splitting, opening, perform}
 use Rattle.running.specs.Demand3.{valueOf}
 
@@ -96,9 +97,37 @@ module _ (𝓢 : Signature) where
         go (yes e) = decides (yes e) e ∙ sym (eq-eqb i j (equal-trees-equal-indexes 𝓢 (atom 0 0) es low once i j p q e))
         go (no n) = denies (no n) n ∙ sym (ne-eqb i j (λ e. n (ap D e)))
 
-    -- a held value keeps an index from being fresh as it does a value
-    spoils-seen : (i w : ℕ) → Ok i → Ok w → tree 𝓢 .spoils (D w) (D i) ≡ A .spoils w i
-    spoils-seen i w p q = same-seen i w p q
+    -- the parts of an entry's value
+    parts-map : (s : Shape 𝓢 ℕ) → partsOf 𝓢 (mapShape D s) ≡ map D (partsOf 𝓢 s)
+    unfolding partsOf mapShape mapBuild
+    parts-map (atomic a) = refl
+    parts-map (compound (build1 k v)) = refl
+    parts-map (compound (build2 k v w)) = refl
+
+    -- they are lower
+    parts-low : {i : ℕ} {e : Entry 𝓢 Atom} → Lower 𝓢 i e → All (λ p. p < i) (partsOf 𝓢 (entryShape 𝓢 e))
+    unfolding partsOf entryShape
+    parts-low low-leaf = all-nil
+    parts-low (low-one p) = all-cons p all-nil
+    parts-low (low-two p q) = all-cons p (all-cons q all-nil)
+
+    -- one value occurs in another as its index does
+    abbrev Occurring : ℕ → ℕ → Type 0
+    Occurring v i = occursIn 𝓢 (D v) (D i) ≡ occursAt 𝓢 es v i
+
+    all-lower : (v i : ℕ) → ((p : ℕ) → p < i → Occurring v p) → {l : List ℕ} → All (λ p. p < i) l → All (λ p. occursIn 𝓢 (D v) (D p) ≡ (ltb p i && occursAt 𝓢 es v p)) l
+    all-lower v i f all-nil = all-nil
+    all-lower v i f (all-cons {x = p} q qs) = all-cons {x = p} (rw (lt-ltb p i q) (f p q)) (all-lower v i f qs)
+
+    occurs-below : (v : ℕ) → Ok v → (n i : ℕ) → i < n → Ok i → Occurring v i
+    occurs-below v k zero i l h = absurd (omega arith)
+    occurs-below v k (suc n) i l h =
+        rw (occurs-by-parts 𝓢 (D v) (D i), same-seen v i k h, shape-seen i, parts-map (A .shape i), any-map 𝓢 D (occursIn 𝓢 (D v)) (partsOf 𝓢 (A .shape i)), occurs-at 𝓢 v es i h)
+        (ap (λ (b : Bool). eqb v i || b)
+        (any-same 𝓢 (λ p. occursIn 𝓢 (D v) (D p)) (λ p. ltb p i && occursAt 𝓢 es v p) (all-lower v i (λ p q. occurs-below v k n p (omega arith) (omega arith)) (parts-low (low i h)))))
+
+    pub occurs-seen : (v i : ℕ) → Ok v → Ok i → occursIn 𝓢 (D v) (D i) ≡ occursAt 𝓢 es v i
+    occurs-seen v i k h = occurs-below v k (suc i) i (omega arith) h
 
     -- ── visible types ──
 
@@ -142,10 +171,10 @@ module _ (𝓢 : Signature) where
     atom-seen (atomic a) = refl
     atom-seen (compound b) = refl
 
-    fresh-seen : {hs : List ℕ} → All Ok hs → (i : ℕ) → Ok i → isFresh 𝓢 (tree 𝓢) (map D hs) (D i) ≡ isFresh 𝓢 A hs i
+    pub fresh-seen : {hs : List ℕ} → All Ok hs → (i : ℕ) → Ok i → isFresh 𝓢 (tree 𝓢) (map D hs) (D i) ≡ isFresh 𝓢 A hs i
     unfolding isFresh
     fresh-seen all-nil i h = refl
-    fresh-seen (all-cons {x = w} p ps) i h = rw (spoils-seen i w h p, fresh-seen ps i h)
+    fresh-seen (all-cons {x = w} p ps) i h = rw (occurs-seen i w h p, fresh-seen ps i h)
 
     parts-seen : (s : Shape 𝓢 ℕ) → pairParts 𝓢 (mapShape D s) ≡ Option·map (onPair D) (pairParts 𝓢 s)
     unfolding pairParts mapShape mapBuild

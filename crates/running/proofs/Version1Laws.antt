@@ -6,11 +6,11 @@ use Rattle.running.specs.Values.{FreshDecided}
 use Rattle.running.specs.Acts.{Tests}
 use Rattle.running.specs.Lists.{table, RunsEndWithin}
 use Rattle.running.specs.Processes.{StuckCannotMove, ProcessByRules, ProcessesEndWithin, RulesGiveOneAnswer}
-use Rattle.running.specs.Demand3.{OneSealEach, CanonicalForms, VisibleByIndex, Demand3Holds, AcceptedListsKeepDemand3, ListsRunAsProcesses, ListsAgree, BuffersSuffice}
+use Rattle.running.specs.Demand3.{OneSealEach, CanonicalForms, VisibleByIndex, FreshByIndex, Demand3Holds, AcceptedListsKeepDemand3, ListsRunAsProcesses, ListsAgree, BuffersSuffice}
 use Rattle.running.proofs.Rules.{fresh-decided, stuck-cannot-move, process-by-rules, rules-give-one-answer}
 use Rattle.running.proofs.Places.{runs-end-within, processes-end-within}
 use Rattle.running.proofs.Types.{canonical-forms}
-use Rattle.running.proofs.Demand3Laws.{visible-by-index, demand-3-holds, accepted-lists-keep-demand-3, lists-run-as-processes, lists-agree, buffers-suffice}
+use Rattle.running.proofs.Demand3Laws.{visible-by-index, fresh-by-index, demand-3-holds, accepted-lists-keep-demand-3, lists-run-as-processes, lists-agree, buffers-suffice}
 
 pub one-seal-each1 : OneSealEach signature1
 one-seal-each1 encryption encryption e = refl
@@ -38,6 +38,9 @@ canonical-forms1 = canonical-forms signature1 laws1
 
 pub visible-by-index1 : VisibleByIndex signature1
 visible-by-index1 = visible-by-index signature1
+
+pub fresh-by-index1 : FreshByIndex signature1
+fresh-by-index1 = fresh-by-index signature1
 
 pub demand-3-holds1 : Demand3Holds signature1
 demand-3-holds1 = demand-3-holds signature1 laws1 one-seal-each1

@@ -16,7 +16,7 @@ use Rattle.calculus.specs.Figure2.{_⊢_∶_ as Has}
 use Rattle.rendering.specs.Rendering.{Splitting, Faithful}
 use Rattle.rendering.specs.Judge.{accepted}
 use Rattle.rendering.specs.Lists.{judged, StatementList, judgeList}
-use Rattle.running.specs.Values.{visible, tree, index}
+use Rattle.running.specs.Values.{visible, Fresh, isFresh, tree, index}
 use Rattle.running.specs.Acts.{Tests, Ending, finished, received-lacks, opened-lacks, fresh-lacks, numberOf, Logged, onLogged, Both, typed, untyped, Result}
 use Rattle.running.specs.Lists.{symbolRegister, run, table}
 use Rattle.running.specs.Processes.{Bindings, look, eval, runProcess, Reaches}
@@ -188,6 +188,13 @@ module _ (𝓢 : Signature) where
   abbrev pub VisibleByIndex : Type 0
   VisibleByIndex = (es : List (Entry 𝓢 Atom)) → Closed 𝓢 (atom 0 0) es → Unrepeated 𝓢 (atom 0 0) es
       → (A : Ty (𝓢 .types)) (i : ℕ) → i < length es → visible 𝓢 (tree 𝓢) A (valueOf es i) ≡ visible 𝓢 (index 𝓢 es) A i
+
+  -- an index of a sound value table is fresh exactly if the value that it stands for is
+  abbrev pub FreshByIndex : Type 0
+  FreshByIndex = (es : List (Entry 𝓢 Atom)) → Closed 𝓢 (atom 0 0) es → Unrepeated 𝓢 (atom 0 0) es
+      → (held : List ℕ) (i : ℕ) → All (λ w. w < length es) held → i < length es
+      → (isFresh 𝓢 (index 𝓢 es) held i ≡ true → Fresh 𝓢 (map (valueOf es) held) (valueOf es i))
+      × (Fresh 𝓢 (map (valueOf es) held) (valueOf es i) → isFresh 𝓢 (index 𝓢 es) held i ≡ true)
 
   -- demand 3 holds of every faithful list
   abbrev pub Demand3Holds : Type 0

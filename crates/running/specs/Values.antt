@@ -1,17 +1,18 @@
 -- What a run sees of a value: its shape, visible types, freshness, and what a key opens. Values are trees, or indexes of a value table: the
 -- definitions are over a `View` of either. Assumes nothing.
 use mathlib.Core.Path.{_≡_}
-use mathlib.Core.Bool.{Bool, true, false, cond, not, _&&_, decide}
+use mathlib.Core.Bool.{Bool, true, false, cond, not, _&&_, _||_, decide}
 use mathlib.Core.Option.{Option, none, some}
-use mathlib.Core.List.{List, [], _∷_}
+use mathlib.Core.List.{List, [], _∷_, _++_}
 use Prim.Native.Nat.{ℕ}
 use lib.Dec.{eqb}
+use lib.ListN.{length, getD}
 use Rattle.types.specs.Forest.{under}
 use Rattle.types.specs.Types.{Ty, Message, Basic, Cipher, Pair}
 use Rattle.calculus.specs.Signature.{Signature, pairing, seal, Fit, itself, twins}
 use Rattle.calculus.specs.Terms.{Atom, atom, leaf, one, two, Value, sameValue, Build, build1, build2}
 use Rattle.calculus.specs.Tables.{Entry, leafEntry, kindEntry, entryAt}
-use Rattle.calculus.specs.Scope.{All}
+use Rattle.calculus.specs.Scope.{In, All}
 
 module _ (𝓢 : Signature) where
   open Signature 𝓢 using (types, One, sameOne, result, Seal, sameSeal, former, fit, atomType)
@@ -25,8 +26,8 @@ module _ (𝓢 : Signature) where
   pub record View (W : Type 0) : Type 0 where
     pub shape : W → Shape W
     pub same : W → W → Bool
-    -- does a held value w keep v from being fresh?
-    pub spoils : W → W → Bool
+    -- does v occur in w?
+    pub occurs : W → W → Bool
     -- what a register that is not given would hold
     pub blank : W
 
@@ -61,18 +62,31 @@ module _ (𝓢 : Signature) where
 
   -- ── Freshness ──
 
-  -- a held value w keeps v from being fresh if v equals it (request c: if v occurs in it)
-  abbrev pub Spoils : Value 𝓢 → Value 𝓢 → Type 0
-  Spoils w v = v ≡ w
+  -- the shape of a tree
+  unfoldable pub treeShape : Value 𝓢 → Shape (Value 𝓢)
+  treeShape (leaf a) = atomic a
+  treeShape (one k v) = compound (build1 k v)
+  treeShape (two k v w) = compound (build2 k v w)
 
-  -- different from every value held for a symbol
+  -- the parts of a value, whatever its kind
+  unfoldable pub partsOf : {W : Type 0} → Shape W → List W
+  partsOf (atomic a) = []
+  partsOf (compound (build1 k v)) = v ∷ []
+  partsOf (compound (build2 k v w)) = v ∷ w ∷ []
+
+  -- v occurs in w: it is w, or it occurs in a part of w
+  pub data Occurs (v : Value 𝓢) : Value 𝓢 → Type 0 where
+    occurs-itself : Occurs v v
+    occurs-inside : {u w : Value 𝓢} → In u (partsOf (treeShape w)) → Occurs v u → Occurs v w
+
+  -- fresh: it occurs in no value held for a symbol (document 02 c); list and process both use this
   abbrev pub Fresh : List (Value 𝓢) → Value 𝓢 → Type 0
-  Fresh held v = All (λ w. ¬ Spoils w v) held
+  Fresh held v = All (λ w. ¬ Occurs v w) held
 
   -- its decider
   unfoldable pub isFresh : {W : Type 0} → View W → List W → W → Bool
   isFresh A [] v = true
-  isFresh A (w ∷ held) v = not (A .spoils w v) && isFresh A held v
+  isFresh A (w ∷ held) v = not (A .occurs v w) && isFresh A held v
 
   -- is it an atom?
   unfoldable pub isAtom : {W : Type 0} → Shape W → Bool
@@ -119,15 +133,15 @@ module _ (𝓢 : Signature) where
 
   -- ── Values as trees ──
 
-  -- the shape of a tree
-  unfoldable pub treeShape : Value 𝓢 → Shape (Value 𝓢)
-  treeShape (leaf a) = atomic a
-  treeShape (one k v) = compound (build1 k v)
-  treeShape (two k v w) = compound (build2 k v w)
+  -- does v occur in a tree?
+  unfoldable pub occursIn : Value 𝓢 → Value 𝓢 → Bool
+  occursIn v (leaf a) = decide (sameValue 𝓢 v (leaf a))
+  occursIn v (one k u) = decide (sameValue 𝓢 v (one k u)) || occursIn v u
+  occursIn v (two k u w) = decide (sameValue 𝓢 v (two k u w)) || (occursIn v u || occursIn v w)
 
   -- values that are trees
   abbrev pub tree : View (Value 𝓢)
-  tree = record { shape = treeShape; same = λ v w. decide (sameValue 𝓢 v w); spoils = λ w v. decide (sameValue 𝓢 v w); blank = leaf (atom 0 0) }
+  tree = record { shape = treeShape; same = λ v w. decide (sameValue 𝓢 v w); occurs = occursIn; blank = leaf (atom 0 0) }
 
   -- the decider of freshness decides it
   abbrev pub FreshDecided : Type 0
@@ -140,6 +154,20 @@ module _ (𝓢 : Signature) where
   entryShape (leafEntry a) = atomic a
   entryShape (kindEntry b) = compound b
 
+  -- some one of them has the property
+  unfoldable pub anyOf : {W : Type 0} → (W → Bool) → List W → Bool
+  anyOf f [] = false
+  anyOf f (x ∷ l) = f x || anyOf f l
+
+  -- one mark a value, those of lower ones being ms: it is value v, or a part of it is marked
+  unfoldable pub marksFrom : ℕ → List Bool → List (Entry 𝓢 Atom) → List Bool
+  marksFrom v ms [] = ms
+  marksFrom v ms (e ∷ es) = marksFrom v (ms ++ ((eqb v (length ms) || anyOf (λ i. getD ms i false) (partsOf (entryShape e))) ∷ [])) es
+
+  -- does value v of a table occur in value w of it?
+  unfoldable pub occursAt : List (Entry 𝓢 Atom) → ℕ → ℕ → Bool
+  occursAt es v w = getD (marksFrom v [] es) w false
+
   -- values that are indexes of a table
   abbrev pub index : List (Entry 𝓢 Atom) → View ℕ
-  index es = record { shape = λ i. entryShape (entryAt 𝓢 (atom 0 0) es i); same = eqb; spoils = λ w v. eqb v w; blank = 0 }
+  index es = record { shape = λ i. entryShape (entryAt 𝓢 (atom 0 0) es i); same = eqb; occurs = occursAt es; blank = 0 }

@@ -40,7 +40,8 @@ value-none (suc (suc zero)) a b h = absurd (omega arith)
 value-none (suc (suc (suc op))) a b h = refl
 
 module _ (s : List ℕ) (n i : ℕ) where
-  entry-in : i < n → entryAt signature1 noAtom (tableAt s n) i ≡ valueOf (code s 3 0 i) (field s 3 0 i 0) (field s 3 0 i 1)
+  -- value i is what stands there
+  pub entry-in : i < n → entryAt signature1 noAtom (tableAt s n) i ≡ valueOf (code s 3 0 i) (field s 3 0 i 0) (field s 3 0 i 1)
   unfolding tableAt valueIn
   entry-in h = listed-all-at (valueIn s) (leafEntry noAtom) n i h
 

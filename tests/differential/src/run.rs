@@ -1,6 +1,6 @@
 //! Running a judged list on a trace: all refusals, all endings, and both lent buffers. Demand 3 is tested on what both give.
 
-use generate::{Rng, TraceKind};
+use generate::{Rng, Sits, TraceKind};
 use mirvashol::raw;
 use second::bytes::wide;
 use second::demand3;
@@ -140,10 +140,11 @@ fn a_run(rng: &mut Rng) -> Inputs {
         inputs.files.push(("trace", trace));
         return inputs;
     }
-    let kind = match rng.below(8) {
+    let kind = match rng.below(9) {
         0 => TraceKind::Random,
         1 => rng.pick(&TraceKind::all()),
-        2 => TraceKind::Fault(rng.pick(&[1, 2, 3, 4, 5, 6, 14])),
+        2 => TraceKind::Supplied(rng.pick(&Sits::ALL)),
+        3 => TraceKind::Fault(rng.pick(&[1, 2, 3, 4, 5, 6, 14])),
         _ => TraceKind::Ending(rng.below(8) as u8),
     };
     let (table, list, made) = trace_for_list(rng, kind);

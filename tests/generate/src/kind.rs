@@ -50,10 +50,24 @@ pub enum ListKind {
 pub enum TraceKind {
     /// A run on it has this ending, 0 to 7.
     Ending(u8),
+    /// A fresh name is supplied with an atom that sits so, and nowhere else.
+    Supplied(Sits),
     /// Random values and supply.
     Random,
     /// One fault: 1 to 6, or 14.
     Fault(u8),
+}
+
+/// Where an atom sits when it is supplied for a fresh name. It is fresh in the last case only.
+#[derive(Clone, Copy, PartialEq, Eq, Hash, PartialOrd, Ord, Debug)]
+pub enum Sits {
+    InHeldPair,
+    InHeldCiphertext,
+    AsKeyOfHeldCiphertext,
+    /// Twenty levels down in a held value that shares its parts.
+    DeepInHeldValue,
+    /// In values of the table that no register holds.
+    InValuesNotHeld,
 }
 
 #[derive(Clone, Copy, PartialEq, Eq, Hash, PartialOrd, Ord, Debug)]
@@ -114,9 +128,20 @@ impl TraceKind {
     pub fn all() -> Vec<TraceKind> {
         let mut all = vec![TraceKind::Random];
         all.extend((0..=7).map(TraceKind::Ending));
+        all.extend(Sits::ALL.map(TraceKind::Supplied));
         all.extend([1, 2, 3, 4, 5, 6, 14].map(TraceKind::Fault));
         all
     }
+}
+
+impl Sits {
+    pub const ALL: [Sits; 5] = [
+        Sits::InHeldPair,
+        Sits::InHeldCiphertext,
+        Sits::AsKeyOfHeldCiphertext,
+        Sits::DeepInHeldValue,
+        Sits::InValuesNotHeld,
+    ];
 }
 
 impl Damage {

@@ -19,5 +19,5 @@ pub mod traces;
 pub mod unfaithful;
 pub mod untyped;
 
-pub use kind::{Change, Damage, ListKind, TableKind, TraceKind};
+pub use kind::{Change, Damage, ListKind, Sits, TableKind, TraceKind};
 pub use rng::Rng;

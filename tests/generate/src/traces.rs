@@ -5,8 +5,9 @@ use second::service::{judged, run};
 use second::table::Table;
 use second::trace::{Trace, Value, CHANNEL, KEY, PLAIN};
 use second::types::Type;
+use second::Answer;
 
-use crate::kind::TraceKind;
+use crate::kind::{Sits, TraceKind};
 use crate::raw::RawTrace;
 use crate::rng::Rng;
 use crate::solver::{Ground, Shape, Solver};
@@ -19,24 +20,54 @@ pub fn trace(rng: &mut Rng, table: &[u8], list: &[u8], kind: TraceKind) -> Optio
         TraceKind::Random => Some(random(rng, &parsed, &judged_list)),
         TraceKind::Ending(ending) => {
             let places = places_of(&judged_list, ending);
-            for _ in 0..6 {
-                let at = rng.pick_any(&places)?;
-                if let Some(made) = reach(rng, &parsed, &judged_list, at, ending) {
-                    let bytes = RawTrace::of(&made).bytes();
-                    let (mut values, mut log) = (vec![0; 5 * 1536], vec![0; 5 * 512]);
-                    let answer = run(table, list, &bytes, &mut values, &mut log);
-                    if answer[0] == 0 && answer[3] == u64::from(ending) {
-                        return Some(bytes);
-                    }
-                }
-            }
-            None
+            let wanted = |_, answer: &Answer| answer[3] == u64::from(ending);
+            tried(rng, table, list, &places, wanted, |rng, at| {
+                reach(rng, &parsed, &judged_list, at, Goal::Ending(ending))
+            })
+        }
+        TraceKind::Supplied(sits) => {
+            let places = places_of(&judged_list, 6);
+            let fresh = sits == Sits::InValuesNotHeld;
+            let wanted = |at, answer: &Answer| (answer[3] == 6 && answer[4] == at as u64) != fresh && answer[4] >= at as u64;
+            tried(rng, table, list, &places, wanted, |rng, at| {
+                reach(rng, &parsed, &judged_list, at, Goal::Supplied(sits))
+            })
         }
         TraceKind::Fault(number) => {
             let fine = random(rng, &parsed, &judged_list);
             trace_faults::faulty(rng, &fine, &parsed, &judged_list, number)
         }
     }
+}
+
+/// A trace that is made for one of these statements and on which the run is as wanted, if one is found.
+fn tried(
+    rng: &mut Rng,
+    table: &[u8],
+    list: &[u8],
+    places: &[usize],
+    wanted: impl Fn(usize, &Answer) -> bool,
+    make: impl Fn(&mut Rng, usize) -> Option<Trace>,
+) -> Option<Vec<u8>> {
+    for _ in 0..6 {
+        let at = rng.pick_any(places)?;
+        if let Some(made) = make(rng, at) {
+            let bytes = RawTrace::of(&made).bytes();
+            let (mut values, mut log) = (vec![0; 5 * 1536], vec![0; 5 * 512]);
+            let answer = run(table, list, &bytes, &mut values, &mut log);
+            if answer[0] == 0 && wanted(at, &answer) {
+                return Some(bytes);
+            }
+        }
+    }
+    None
+}
+
+/// What is to happen at a statement.
+#[derive(Clone, Copy, PartialEq, Eq)]
+enum Goal {
+    Ending(u8),
+    Supplied(Sits),
 }
 
 /// The statements at which a run can have this ending.
@@ -59,14 +90,15 @@ fn places_of(list: &List, ending: u8) -> Vec<usize> {
         .collect()
 }
 
-/// A trace on which every statement before the given one goes well and this one ends the run so, as far as can be told.
-fn reach(rng: &mut Rng, table: &Table, list: &List, at: usize, ending: u8) -> Option<Trace> {
+/// A trace on which every statement before the given one goes well and this happens there, as far as can be told.
+fn reach(rng: &mut Rng, table: &Table, list: &List, at: usize, goal: Goal) -> Option<Trace> {
     let mut plan = Plan {
         list,
         solver: Solver::default(),
         registers: Vec::new(),
         starting: Vec::new(),
         supply: Vec::new(),
+        others: Vec::new(),
     };
     for s in table.free() {
         let node = plan.solver.unknown(&list.types[s]);
@@ -76,11 +108,13 @@ fn reach(rng: &mut Rng, table: &Table, list: &List, at: usize, ending: u8) -> Op
     for &statement in &list.statements[..at] {
         plan.goes_well(rng, statement)?;
     }
-    if ending != 0 {
-        plan.ends(rng, list.statements[at], ending)?;
+    match goal {
+        Goal::Ending(0) => {}
+        Goal::Ending(ending) => plan.ends(rng, list.statements[at], ending)?,
+        Goal::Supplied(sits) => plan.supplies(rng, list.statements[at], sits)?,
     }
     // Without a supply left nothing may follow.
-    if ending != 1 && rng.once_in(2) {
+    if goal != Goal::Ending(1) && rng.once_in(2) {
         for _ in 0..rng.within(1, 4) {
             let node = plan.solver.unknown(&Type::Message);
             plan.supply.push(node);
@@ -95,6 +129,8 @@ struct Plan<'a> {
     registers: Vec<usize>,
     starting: Vec<usize>,
     supply: Vec<usize>,
+    /// Values of the table that nobody holds.
+    others: Vec<usize>,
 }
 
 impl Plan<'_> {
@@ -121,12 +157,7 @@ impl Plan<'_> {
                 node
             }
             FRESH => {
-                let kind = match self.list.types[s] {
-                    Type::Channel => CHANNEL,
-                    Type::ShKey => KEY,
-                    _ => rng.pick(&[PLAIN, CHANNEL, KEY]),
-                };
-                let node = solver.new_atom(kind);
+                let node = solver.new_atom(kind_for(rng, &self.list.types[s]));
                 self.supply.push(node);
                 node
             }
@@ -151,6 +182,46 @@ impl Plan<'_> {
         };
         self.registers.push(node);
         Some(())
+    }
+
+    /// An atom that sits so is supplied for a fresh name.
+    fn supplies(&mut self, rng: &mut Rng, statement: Statement, sits: Sits) -> Option<()> {
+        let atom = self.solver.new_atom(kind_for(rng, &self.list.types[statement.s]));
+        self.supply.push(atom);
+        let whole = self.around(rng, atom, sits);
+        if sits == Sits::InValuesNotHeld {
+            self.others.push(whole);
+            return Some(());
+        }
+        // Registers of which nothing but a type is known mean symbols.
+        let open = |r: &usize| self.solver.shape(*r).is_none() && self.solver.clone().merge(*r, whole);
+        let held: Vec<usize> = self.registers.iter().copied().filter(open).collect();
+        let held = rng.pick_any(&held)?;
+        self.solver.merge(held, whole).then_some(())
+    }
+
+    /// A value in which the atom sits so.
+    fn around(&mut self, rng: &mut Rng, atom: usize, sits: Sits) -> usize {
+        let solver = &mut self.solver;
+        let other = solver.new_atom(KEY);
+        match sits {
+            Sits::InHeldPair if rng.once_in(2) => solver.pair(atom, other),
+            Sits::InHeldPair => solver.pair(other, atom),
+            Sits::InHeldCiphertext => solver.encrypted(atom, other),
+            Sits::AsKeyOfHeldCiphertext => solver.encrypted(other, atom),
+            Sits::DeepInHeldValue | Sits::InValuesNotHeld => {
+                let mut whole = solver.pair(other, atom);
+                for _ in 1..20 {
+                    whole = match rng.below(4) {
+                        0 => solver.pair(whole, other),
+                        1 => solver.encrypted(other, whole),
+                        2 => solver.encrypted(whole, whole),
+                        _ => solver.pair(whole, whole),
+                    };
+                }
+                whole
+            }
+        }
     }
 
     /// What makes the statement end the run with this ending.
@@ -221,12 +292,22 @@ impl Plan<'_> {
         };
         let starting = indexes(&self.starting)?;
         let supply = indexes(&self.supply)?;
+        indexes(&self.others)?;
         let values = ground.values;
         (values.len() <= 1024).then_some(Trace {
             values,
             starting,
             supply,
         })
+    }
+}
+
+/// The kind of an atom that visibly has the type of a fresh name.
+fn kind_for(rng: &mut Rng, wanted: &Type) -> usize {
+    match wanted {
+        Type::Channel => CHANNEL,
+        Type::ShKey => KEY,
+        _ => rng.pick(&[PLAIN, CHANNEL, KEY]),
     }
 }
 

@@ -1,7 +1,7 @@
 //! Each kind really gives what it says, and the same seed gives the same bytes.
 
 use generate::damage::{damage, LONGEST};
-use generate::kind::{Change, Damage, ListKind, TableKind, TraceKind};
+use generate::kind::{Change, Damage, ListKind, Sits, TableKind, TraceKind};
 use generate::lists::{accepted, list};
 use generate::tables::{some_typed, table};
 use generate::traces::trace;
@@ -126,6 +126,8 @@ fn traces_of_each_kind() {
             match kind {
                 TraceKind::Random => assert_eq!(answer[0], 0, "{i}"),
                 TraceKind::Ending(e) => assert_eq!((answer[0], answer[3]), (0, u64::from(e)), "{i}"),
+                TraceKind::Supplied(Sits::InValuesNotHeld) => assert_eq!(answer[0], 0, "{i}"),
+                TraceKind::Supplied(_) => assert_eq!((answer[0], answer[3]), (0, 6), "{i}"),
                 TraceKind::Fault(n) => assert_eq!(answer[0], u64::from(n), "{i}"),
             }
             if let TraceKind::Fault(n @ 1..=6) = kind {

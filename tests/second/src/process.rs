@@ -2,7 +2,7 @@
 
 use crate::run::Message;
 use crate::table::{Step, Table, Term};
-use crate::trace::{place_value, Trace, Value};
+use crate::trace::{occurs_in, place_value, Trace, Value};
 
 /// Why a process is stuck.
 #[derive(Clone, Copy, PartialEq, Eq, Debug)]
@@ -120,7 +120,9 @@ impl Process<'_> {
             }
             Step::Restriction { x } => {
                 let value = self.take_supply()?;
-                if !self.values[value].is_atom() || self.symbols.contains(&Some(value)) {
+                // Document 02 c): it occurs in no value of the substitution. Table 3 asks only that it is none of them.
+                let held = self.symbols.iter().copied().flatten();
+                if !self.values[value].is_atom() || occurs_in(&self.values, value, held) {
                     return Err(Stuck::Fresh);
                 }
                 self.symbols[x] = Some(value);

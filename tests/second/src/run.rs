@@ -3,7 +3,7 @@
 use crate::list::{List, Statement, COMPARE, DECRYPT, ENCRYPT, FRESH, LEFT, PAIR, RECEIVE, RIGHT, SEND};
 use crate::refusal::{Refusal, BUFFER, TRACE};
 use crate::table::Table;
-use crate::trace::{place_value, visibly_has, Trace, Value};
+use crate::trace::{occurs_in, place_value, visibly_has, Trace, Value};
 
 /// A message: sent or received, on which channel, which value (indexes of the value table).
 #[derive(Clone, Copy, PartialEq, Eq, Debug)]
@@ -115,9 +115,10 @@ impl Machine<'_> {
         }
     }
 
-    /// Fresh: different from every value held in a register that means a symbol.
+    /// Fresh: it occurs in no value held in a register that means a symbol.
     fn is_fresh(&self, value: usize) -> bool {
-        self.registers.iter().all(|&(held, symbol)| !symbol || held != value)
+        let held = self.registers.iter().filter(|(_, symbol)| *symbol);
+        !occurs_in(&self.values, value, held.map(|&(held, _)| held))
     }
 
     /// One statement; an early ending is the error.

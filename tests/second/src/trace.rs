@@ -19,6 +19,14 @@ impl Value {
         matches!(self, Value::Atom { .. })
     }
 
+    /// The values that it is made of: both parts of a pair, inside and key of a ciphertext.
+    pub fn parts(self) -> Vec<usize> {
+        match self {
+            Value::Atom { .. } => vec![],
+            Value::Pair(a, b) | Value::Encrypted(a, b) => vec![a, b],
+        }
+    }
+
     pub fn bytes(self) -> [u8; 5] {
         let (tag, a, b) = match self {
             Value::Atom { kind, number } => (0, kind, number),
@@ -59,4 +67,16 @@ pub fn visibly_has(values: &[Value], index: usize, wanted: &Type) -> bool {
         (Type::Cipher(_), Value::Encrypted(_, _)) => true,
         _ => false,
     }
+}
+
+/// Whether the value occurs in one of those held, or is one of them. Each value is looked into once, however often it is shared.
+pub fn occurs_in(values: &[Value], value: usize, held: impl IntoIterator<Item = usize>) -> bool {
+    let mut looked_into = vec![false; values.len()];
+    let mut pending: Vec<usize> = held.into_iter().collect();
+    while let Some(at) = pending.pop() {
+        if !std::mem::replace(&mut looked_into[at], true) {
+            pending.extend(values[at].parts());
+        }
+    }
+    looked_into[value]
 }

@@ -11,7 +11,7 @@ use crate::trace::{TraceWriter, Value};
 pub fn protocol() -> Protocol {
     Protocol {
         folder: "incident",
-        roles: vec![asking(), answering()],
+        roles: vec![asking(), answering(), keeping()],
     }
 }
 
@@ -87,4 +87,34 @@ fn answering() -> Role {
         .other_list("repeats", 0, with_a_build_repeated)
         .night("good", 0, night(2))
         .night("no-edits", 1, night(1))
+}
+
+/// The branch that asks and still keeps yesterday's answer, sealed: it is held, and so is all that is inside it.
+fn keeping() -> Role {
+    let mut t = TableWriter::default();
+    let [net, k, catalogue, archive] = t.names(["net", "k", "catalogue", "archive"]);
+    let old = t.variable("old");
+    t.send(&archive, &old);
+    let n = t.fresh("n");
+    t.send(&net, &n);
+    let x = t.receive(&net, "x");
+    let p = t.decrypt(&x, &k, "p");
+    let [m, edits] = t.split(&p, ["m", "edits"]);
+    t.compare(&m, &n);
+    t.send(&catalogue, &edits);
+
+    // Yesterday's nonce is 1, and the answer that comes back is yesterday's or, to nonce 2, tonight's.
+    let night = |tonight: u16, edits: u16| {
+        let mut v = TraceWriter::default();
+        let start = [v.channel(0), v.key(0), v.channel(1), v.channel(3)];
+        let inside = [v.plain(1), v.plain(101)];
+        let old = v.sealed(&inside, start[1]);
+        let n = v.plain(tonight);
+        let edits = v.plain(edits);
+        let answer = v.sealed(&[n, edits], start[1]);
+        v.finish(&[start.as_slice(), &[old]].concat(), &[n, answer])
+    };
+    Role::new("keeping", t)
+        .night("good", 0, night(2, 102))
+        .night("old-nonce", 6, night(1, 101))
 }

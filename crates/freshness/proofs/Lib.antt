@@ -1,0 +1,3 @@
+-- Laws of marks of values, for the proofs of this crate.
+pub mod MarkLaws
+pub mod HeldLaws

@@ -1,0 +1,3 @@
+-- What the promises of `freshness` speak of.
+pub mod Marks
+pub mod Fresh
