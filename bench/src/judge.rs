@@ -1,4 +1,4 @@
-//! Judging a list against a table.
+//! Judging a list against a table, and a whole shelf: one call against a call for each list.
 
 use generate::raw::RawList;
 use mirvashol::raw;
@@ -22,6 +22,34 @@ pub fn rows() -> Vec<Row> {
     vec![
         row("typical", TYPICAL_TABLE.to_vec(), TYPICAL_LIST.to_vec()),
         row("worst: 512 statements over 128 shared terms", worst, list),
+    ]
+}
+
+/// A month's lists of one table.
+const SHELF: usize = 30;
+
+/// The shelf of this many typical lists, in one call and in a call each.
+pub fn shelf() -> Vec<Row> {
+    let lists = TYPICAL_LIST.repeat(SHELF);
+    let again = lists.clone();
+    let lengths = [TYPICAL_LIST.len() as u64; SHELF];
+    let (mut verdicts, mut other, mut answer) = ([0; 4 * SHELF], [0; 4 * SHELF], [0; 8]);
+    vec![
+        Row {
+            input: "typical: 30 lists of one table, one call",
+            ours: Box::new(move || {
+                raw::judge_shelf(TYPICAL_TABLE, &lists, &lengths, &mut verdicts, &mut answer).into()
+            }),
+            second: Box::new(move || service::judge_shelf(TYPICAL_TABLE, &again, &lengths, &mut other)[0]),
+        },
+        Row {
+            input: "typical: 30 lists of one table, 30 calls of judge",
+            ours: Box::new(move || {
+                let one = |_| u64::from(raw::judge(TYPICAL_TABLE, TYPICAL_LIST, &mut answer));
+                (0..SHELF).map(one).sum()
+            }),
+            second: Box::new(|| (0..SHELF).map(|_| service::judge(TYPICAL_TABLE, TYPICAL_LIST)[0]).sum()),
+        },
     ]
 }
 

@@ -24,6 +24,7 @@ const SERVICES: &[(&str, fn() -> Vec<Row>)] = &[
     ("type", tables::type_table),
     ("compile", tables::compile),
     ("judge", judge::rows),
+    ("judge_shelf", judge::shelf),
     ("run", run::rows),
 ];
 

@@ -43,6 +43,18 @@ mod exported {
             answer: *mut u64,
             entries: usize,
         ) -> u8;
+        pub fn mirvashol_judge_shelf(
+            table: *const u8,
+            table_length: usize,
+            lists: *const u8,
+            lists_length: usize,
+            lengths: *const u64,
+            lengths_length: usize,
+            verdicts: *mut u8,
+            verdicts_lent: usize,
+            answer: *mut u64,
+            entries: usize,
+        ) -> u8;
         pub fn mirvashol_run(
             table: *const u8,
             table_length: usize,
@@ -61,11 +73,11 @@ mod exported {
 }
 
 /// A slice of length 0 may have any pointer: none at all is the hardest one.
-fn start(bytes: &[u8]) -> *const u8 {
-    if bytes.is_empty() {
+fn start<T>(given: &[T]) -> *const T {
+    if given.is_empty() {
         std::ptr::null()
     } else {
-        bytes.as_ptr()
+        given.as_ptr()
     }
 }
 
@@ -135,6 +147,24 @@ pub fn judge(table: &[u8], list: &[u8], answer: &mut [u64]) -> u8 {
             table.len(),
             start(list),
             list.len(),
+            start_mut(answer),
+            answer.len(),
+        )
+    }
+}
+
+#[inline]
+pub fn judge_shelf(table: &[u8], lists: &[u8], lengths: &[u64], verdicts: &mut [u8], answer: &mut [u64]) -> u8 {
+    unsafe {
+        exported::mirvashol_judge_shelf(
+            start(table),
+            table.len(),
+            start(lists),
+            lists.len(),
+            start(lengths),
+            lengths.len(),
+            start_mut(verdicts),
+            verdicts.len(),
             start_mut(answer),
             answer.len(),
         )

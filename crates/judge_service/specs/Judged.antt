@@ -18,6 +18,7 @@ use Rattle.rendering.specs.Lists.{StatementList, FaithfulList, Answer, typesDif
 use Rattle.decoded.specs.Table.{tableOf, freeCount}
 use Rattle.decoded_list.specs.Bytes.{listBytes, typesTo}
 use Rattle.decoded_list.specs.Statements.{statementsOf}
+use Rattle.slots.specs.Slots.{Holds}
 use Rattle.type_service.specs.Services.{IsWidest, TableRefused}
 
 -- document 01's number of a verdict, with file and place
@@ -42,6 +43,10 @@ pub data Judged (t l : List ℕ) : Check → Type 0 where
   list-refused : {Γ : Env signature1} {x : Refusal} → IsWidest t Γ → least (listRungs l (freeCount t)) ≡ Refuse x → Judged t l (Refuse x)
   list-judged : {Γ : Env signature1} {m : StatementList signature1} {a : Answer} → IsWidest t Γ → least (listRungs l (freeCount t)) ≡ Pass → l ≡ listBytes m
       → ListAnswerIs signature1 halves (tableOf t) (typesTo Γ (symbols t)) m a → Judged t l (answerCheck a)
+
+-- so it is of a table that is typed already: the slots w hold its widest types
+pub record TypedJudged (t w l : List ℕ) (r : Check) : Type 0 where
+  pub judged : (Γ : Env signature1) → Holds w Γ → IsWidest t Γ → Judged t l r
 
 -- a list that is the file of a faithful rendering of the table with its widest types, and has no fault 1 to 5
 pub record FaithfulFile (t l : List ℕ) : Type 0 where

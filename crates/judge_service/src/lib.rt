@@ -2,7 +2,7 @@
 // taken, never a claim about it.
 use answers::Check;
 use judging::Verdict;
-ghost use Rattle.judge_service.specs.Judged.{VerdictGiven, Judged};
+ghost use Rattle.judge_service.specs.Judged.{VerdictGiven, Judged, TypedJudged};
 
 // Numbers 12 and 13.
 fn check_statements(table: &[u8], list: &[u8]) -> Check
@@ -16,7 +16,22 @@ fn check_statements(table: &[u8], list: &[u8]) -> Check
     }
 }
 
-// Table 1 to 10, list 1 to 5, then 11, 12 and 13.
+// List 1 to 5, then 11, 12 and 13, beside a table that is typed already: the slots hold its widest types.
+pub fn judge_typed(table: &[u8], work: &[u8], list: &[u8]) -> Check
+    ensures { λ r. ⌜ TypedJudged (now (table .entry)) (now (work .entry)) (now (list .entry)) r ⌝ }
+{
+    let b = list::check_list(list, free_symbols::free_count(table));
+    let Check::Pass = b else {
+        return b;
+    };
+    let c = type_match::check_alike(list, work, table_layout::symbol_count(table));
+    let Check::Pass = c else {
+        return c;
+    };
+    check_statements(table, list)
+}
+
+// Table 1 to 10, then the list.
 pub fn judge_list(table: &[u8], list: &[u8]) -> Check
     ensures { λ r. ⌜ Judged (now (table .entry)) (now (list .entry)) r ⌝ }
 {
@@ -25,13 +40,5 @@ pub fn judge_list(table: &[u8], list: &[u8]) -> Check
     let Check::Pass = a else {
         return a;
     };
-    let b = list::check_list(list, free_symbols::free_count(table));
-    let Check::Pass = b else {
-        return b;
-    };
-    let c = type_match::check_alike(list, &work, table_layout::symbol_count(table));
-    let Check::Pass = c else {
-        return c;
-    };
-    check_statements(table, list)
+    judge_typed(table, &work, list)
 }

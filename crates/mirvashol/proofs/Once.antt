@@ -13,6 +13,8 @@ use Rattle.type_service.specs.Services.{Answered, typesFile}
 use Rattle.type_service.proofs.ServiceLaws.{answered-once}
 use Rattle.compile_service.specs.Files.{listFile}
 use Rattle.judge_service.proofs.Exact.{judged-once}
+use Rattle.shelf_service.specs.Shelf.{ShelfAnswered}
+use Rattle.shelf_service.proofs.Once.{shelf-answered-once}
 use Rattle.run_service.specs.Runs.{RunAnswered}
 use Rattle.run_service.proofs.Once.{run-answered-once}
 use Rattle.mirvashol.specs.Given.{EntriesGiven}
@@ -67,6 +69,11 @@ judge-served-once t l given gives gives′ r q s u =
     let e : s .verdict ≡ u .verdict = judged-once t l (s .verdict) (u .verdict) (s .is-judged) (u .is-judged) in
     let h : EntriesGiven given gives′ q (entriesOf (s .verdict) 0 0 0) = rw e (u .entries) in
     given-once given gives gives′ r q (entriesOf (s .verdict) 0 0 0) (s .entries) h
+
+-- a whole shelf
+pub mirvashol-judge-shelf-once : (t lists lengths z o p given gives gives′ : List ℕ) (r q : ℕ)
+    → Served (ShelfAnswered t lists lengths z) z o given gives r → Served (ShelfAnswered t lists lengths z) z p given gives′ q → (o ≡ p) × (gives ≡ gives′) × (r ≡ q)
+mirvashol-judge-shelf-once t lists lengths z = served-once (ShelfAnswered t lists lengths z) (shelf-answered-once t lists lengths z) z
 
 -- ── The run ──
 

@@ -9,6 +9,7 @@ ghost use lib.Dec.{leb};
 ghost use Rattle.base.specs.Pick.{pick};
 ghost use Rattle.type_service.specs.Services.{Answered, typesFile};
 ghost use Rattle.compile_service.specs.Files.{listFile};
+ghost use Rattle.shelf_service.specs.Shelf.{ShelfAnswered};
 ghost use Rattle.run_service.specs.Runs.{RunAnswered};
 ghost use Rattle.mirvashol.specs.Given.{EntriesGiven};
 ghost use Rattle.mirvashol.specs.Served.{Served, JudgeServed, RunServed};
@@ -133,6 +134,26 @@ pub extern "C" fn mirvashol_judge(table: &[u8], list: &[u8], answer: &mut [u64])
 {
     let check = judge_service::judge_list(table, list);
     give_check(answer, check, 0, 0, 0)
+}
+
+// Judges up to 64 lists, laid end to end with their lengths, against a table: a refusal, or the bytes written, four for each list: number,
+// file, and the place as two bytes, high first; four zeros where the list is accepted.
+#[no_mangle]
+pub extern "C" fn mirvashol_judge_shelf(
+    table: &[u8],
+    lists: &[u8],
+    lengths: &[u64],
+    verdicts: &mut [u8],
+    answer: &mut [u64],
+) -> u8
+    ensures { λ r. ⌜ Served (ShelfAnswered (now (table .entry)) (now (lists .entry)) (now (lengths .entry)) (now (verdicts .entry))) (now (verdicts .entry)) (now (verdicts .exit)) (now (answer .entry)) (now (answer .exit)) r ⌝ }
+{
+    if answer.len() < 8 {
+        return 255;
+    }
+    let w = shelf_service::judge_shelf(table, lists, lengths, verdicts);
+    let check = w.check;
+    give_check(answer, check, w.bytes as u64, 0, 0)
 }
 
 // Runs a list on a trace: a refusal; or ending, statement index, supplies used, messages logged, and values in the table.

@@ -86,7 +86,7 @@ fn a_real_table(rng: &mut Rng) -> Vec<u8> {
 }
 
 /// A typed table: a generated one, or now and then a real protocol's.
-fn a_typed_table(rng: &mut Rng) -> Vec<u8> {
+pub fn a_typed_table(rng: &mut Rng) -> Vec<u8> {
     if rng.once_in(12) {
         a_real_table(rng)
     } else {

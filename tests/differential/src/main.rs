@@ -15,6 +15,7 @@ mod compile;
 mod exported;
 mod inputs;
 mod judge;
+mod judge_shelf;
 mod lent;
 mod report;
 mod room;
@@ -38,6 +39,7 @@ const SERVICES: &[Service] = &[
     type_table::SERVICE,
     compile::SERVICE,
     judge::SERVICE,
+    judge_shelf::SERVICE,
     run::SERVICE,
 ];
 

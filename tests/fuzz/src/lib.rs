@@ -74,6 +74,7 @@ fn compare(table: &[u8], list: &[u8], trace: &[u8]) {
     same("judge", second::service::judge(table, list), |answer| {
         raw::judge(table, list, answer)
     });
+    compare_shelf(table, list, trace);
     let log = if trace.len() % 2 == 0 { 2_568 } else { 15 };
     let (mut a, mut b) = (vec![BEFORE; log], vec![BEFORE; log]);
     same_file(
@@ -83,6 +84,26 @@ fn compare(table: &[u8], list: &[u8], trace: &[u8]) {
         |values, answer| raw::run(table, list, trace, values, &mut b, answer),
     );
     assert_eq!(a, b, "run");
+}
+
+/// A shelf of the list, the trace and the list once more: by its lengths, and by lengths that the trace's bytes give.
+fn compare_shelf(table: &[u8], list: &[u8], trace: &[u8]) {
+    let lists = [list, trace, list].concat();
+    let right = [list.len(), trace.len(), list.len()].map(|length| length as u64);
+    let word = |bytes: &[u8]| {
+        bytes
+            .iter()
+            .fold(0, |number, &byte| 256 * (number % (1 << 56)) + u64::from(byte))
+    };
+    let given: Vec<u64> = trace.chunks(8).map(word).collect();
+    for (lengths, room) in [(&right[..], 16), (&right[..], trace.len() % 16), (&given[..], 260)] {
+        same_file(
+            "judge_shelf",
+            room,
+            |verdicts| second::service::judge_shelf(table, &lists, lengths, verdicts),
+            |verdicts, answer| raw::judge_shelf(table, &lists, lengths, verdicts, answer),
+        );
+    }
 }
 
 /// libFuzzer's entry.

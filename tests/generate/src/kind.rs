@@ -47,6 +47,20 @@ pub enum ListKind {
 }
 
 #[derive(Clone, Copy, PartialEq, Eq, Hash, PartialOrd, Ord, Debug)]
+pub enum ShelfKind {
+    /// This many lists, whose lengths add up.
+    Of(usize),
+    /// An empty list among the others.
+    EmptyAmong,
+    /// The lengths add up to more than the lists' bytes.
+    TooMuch,
+    /// They add up to fewer.
+    TooLittle,
+    /// They add up to 2^64 more.
+    Wrapping,
+}
+
+#[derive(Clone, Copy, PartialEq, Eq, Hash, PartialOrd, Ord, Debug)]
 pub enum TraceKind {
     /// A run on it has this ending, 0 to 7.
     Ending(u8),
@@ -122,6 +136,22 @@ impl ListKind {
         all.extend((1..=5).map(ListKind::Fault));
         all
     }
+}
+
+impl ShelfKind {
+    pub const ALL: [ShelfKind; 11] = [
+        ShelfKind::Of(0),
+        ShelfKind::Of(1),
+        ShelfKind::Of(2),
+        ShelfKind::Of(30),
+        ShelfKind::Of(63),
+        ShelfKind::Of(64),
+        ShelfKind::Of(65),
+        ShelfKind::EmptyAmong,
+        ShelfKind::TooMuch,
+        ShelfKind::TooLittle,
+        ShelfKind::Wrapping,
+    ];
 }
 
 impl TraceKind {

@@ -1,15 +1,16 @@
 //! Each kind really gives what it says, and the same seed gives the same bytes.
 
 use generate::damage::{damage, LONGEST};
-use generate::kind::{Change, Damage, ListKind, Sits, TableKind, TraceKind};
+use generate::kind::{Change, Damage, ListKind, ShelfKind, Sits, TableKind, TraceKind};
 use generate::lists::{accepted, list};
+use generate::shelves::shelf;
 use generate::tables::{some_typed, table};
 use generate::traces::trace;
 use generate::Rng;
 use second::read_list::read_list;
 use second::read_table::read_table;
 use second::read_trace::read_trace;
-use second::service::{check_list, check_table, check_trace, judge, judged, run, type_table, typed_table};
+use second::service::{check_list, check_table, check_trace, judge, judge_shelf, judged, run, type_table, typed_table};
 
 const TIMES: u64 = 300;
 
@@ -108,6 +109,38 @@ fn faithful_lists_are_not_only_the_compilers() {
         different > 150 && long > 30,
         "{different} differ, {long} have registers above 255"
     );
+}
+
+#[test]
+fn shelves_of_each_kind() {
+    for kind in ShelfKind::ALL {
+        let mut mixed = 0;
+        for i in 0..TIMES {
+            let mut rng = Rng::part(6, i);
+            let table = some_typed(&mut rng);
+            let made = shelf(&mut rng, &table, kind);
+            let mut verdicts = [0; 4 * 65];
+            let answer = judge_shelf(&table, &made.lists, &made.lengths, &mut verdicts);
+            let expected = match kind {
+                ShelfKind::Of(65) => 3,
+                ShelfKind::Of(_) | ShelfKind::EmptyAmong => 0,
+                ShelfKind::TooMuch | ShelfKind::TooLittle | ShelfKind::Wrapping => 4,
+            };
+            assert_eq!(answer[0], expected, "{kind:?} {i}");
+            let sum = made
+                .lengths
+                .iter()
+                .fold(0, |sum: u64, &length| sum.wrapping_add(length));
+            let wraps = expected == 4 && sum == made.lists.len() as u64;
+            assert_eq!(wraps, kind == ShelfKind::Wrapping, "{kind:?} {i}");
+            let written = &verdicts[..answer[3] as usize];
+            mixed += usize::from(written.chunks(4).any(|four| four != &written[..4]));
+        }
+        println!("{kind:?}: {mixed} have more than one verdict");
+        if let ShelfKind::Of(2..=64) = kind {
+            assert!(mixed > 60, "{kind:?}: only {mixed} have more than one verdict");
+        }
+    }
 }
 
 #[test]

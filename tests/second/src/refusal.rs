@@ -26,6 +26,13 @@ impl Refusal {
     pub fn give<T>(number: u8, file: u8, place: usize) -> Result<T, Refusal> {
         Err(Refusal::new(number, file, place))
     }
+
+    /// The refusal as four bytes: number, file, and the place as 16 bits, high byte first.
+    pub fn bytes(self) -> [u8; 4] {
+        let place = u16::try_from(self.place).expect("a list's place fits 16 bits");
+        let [high, low] = place.to_be_bytes();
+        [self.number, self.file, high, low]
+    }
 }
 
 /// What a service answers: 0 number, 1 file, 2 place; then what the service has to say where nothing is refused.

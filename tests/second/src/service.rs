@@ -5,7 +5,7 @@ use crate::list::List;
 use crate::read_list::{self, read_list};
 use crate::read_table::read_table;
 use crate::read_trace::read_trace;
-use crate::refusal::{answer, Answer, Refusal, BUFFER};
+use crate::refusal::{answer, Answer, Refusal, BUFFER, LIST};
 use crate::run;
 use crate::table::Table;
 use crate::translate::list_bytes;
@@ -49,6 +49,35 @@ pub fn compile(table: &[u8], out: &mut [u8]) -> Answer {
 /// Judges a list against a table.
 pub fn judge(table: &[u8], list: &[u8]) -> Answer {
     answer(judged(table, list).map(|_| vec![]))
+}
+
+/// The most lists that one call takes.
+const SHELF: usize = 64;
+
+/// Judges lists that are laid end to end, of these lengths. For each list four bytes are written: number, file and 16-bit place, or
+/// zeros where judging it by itself refuses nothing.
+pub fn judge_shelf(table: &[u8], lists: &[u8], lengths: &[u64], verdicts: &mut [u8]) -> Answer {
+    answer(shelf_result(table, lists, lengths, verdicts))
+}
+
+fn shelf_result(table: &[u8], lists: &[u8], lengths: &[u64], verdicts: &mut [u8]) -> Result<Vec<u64>, Refusal> {
+    typed_table(table)?;
+    if lengths.len() > SHELF {
+        return Refusal::give(3, LIST, 0);
+    }
+    // Any sum of 64 lengths fits 128 bits.
+    let sum: u128 = lengths.iter().map(|&length| u128::from(length)).sum();
+    if sum != lists.len() as u128 {
+        return Refusal::give(4, LIST, 0);
+    }
+    let mut rest = lists;
+    let mut bytes = Vec::new();
+    for &length in lengths {
+        let (list, after) = rest.split_at(length as usize);
+        rest = after;
+        bytes.extend(judged(table, list).map_or_else(|refusal| refusal.bytes(), |_| [0; 4]));
+    }
+    lend(verdicts, &bytes)
 }
 
 /// Runs a judged list on a trace: ending, statement index, supplies used, messages logged, values in the table.

@@ -1,0 +1,2 @@
+-- What the promises of `shelf_service` speak of.
+pub mod Shelf
