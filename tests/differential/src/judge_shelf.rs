@@ -12,7 +12,7 @@ use crate::compare::compare;
 use crate::inputs::{a_table, a_typed_table, kind_label, table_kinds, Inputs};
 use crate::lent::{needed, BUFFER};
 use crate::room::Room;
-use crate::service::{answers, label, Case, Service, ANSWER, KIND};
+use crate::service::{answers, label, Case, Service, KIND};
 
 pub const SERVICE: Service = Service {
     name: "judge_shelf",
@@ -29,10 +29,8 @@ const FOUR: usize = 4;
 fn owed() -> Vec<(&'static str, Vec<String>)> {
     let rooms = Room::ALL.iter().map(|room| format!("{room:?}")).collect();
     let shelves = ShelfKind::ALL.map(|kind| kind_label("shelf", kind)).to_vec();
-    let mut refusals = answers(&[(TABLE, 1, 10), (LIST, 3, 4), (LENT, 15, 15)]);
-    refusals.0 = ANSWER;
     vec![
-        refusals,
+        answers(&[(TABLE, 1, 10), (LIST, 3, 4), (LENT, 15, 15)]),
         (VERDICTS, answers(&[(LIST, 1, 5), (LIST, 11, 13)]).1),
         (BUFFER, rooms),
         (KIND, [shelves, table_kinds()].concat()),
