@@ -17,7 +17,7 @@
  * - Each pointer is valid for its length during the call: to read, or, where it is not const, to read and write.
  *   With length 0 any pointer will do, a null pointer too.
  * - Lent buffers and `answer` overlap neither each other nor anything that is read. What is only read may overlap.
- * - `answer` is aligned as a uint64_t is.
+ * - `answer` and `lengths` are aligned as a uint64_t is.
  * - Nobody writes to any of it during the call, and nobody reads what is lent to be written.
  *
  * The functions keep no state, allocate nothing and start no thread: any number of calls may be made at once, each with
@@ -63,6 +63,16 @@ uint8_t mirvashol_compile(const uint8_t *table, size_t table_length,
 uint8_t mirvashol_judge(const uint8_t *table, size_t table_length,
                         const uint8_t *list, size_t list_length,
                         uint64_t *answer, size_t answer_entries);
+
+/* Judges lists of one table, `lengths_count` of them (at most 64), laid end to end in `lists` with their lengths. For each list the four bytes
+ * of what mirvashol_judge says of it by itself go to `verdicts`: number, file, and the place, high byte first; four zeros where it is accepted.
+ * Refused is the whole call: numbers 1 to 10 of the table; then, with file 1, 3 for more than 64 lists, and 4 for lengths that do not add up to
+ * `lists_length`; then 15 for `verdicts`. Entry 3: bytes written, four for each list. */
+uint8_t mirvashol_judge_shelf(const uint8_t *table, size_t table_length,
+                              const uint8_t *lists, size_t lists_length,
+                              const uint64_t *lengths, size_t lengths_count,
+                              uint8_t *verdicts, size_t verdicts_length,
+                              uint64_t *answer, size_t answer_entries);
 
 /* Judges a list and runs it on a trace. The value table goes to `values` and the messages to `log`, five bytes an entry
  * each. The judge's numbers, 1 to 6 of the trace, 14, then 15 for `values` and for `log`.

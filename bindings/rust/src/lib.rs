@@ -16,6 +16,9 @@ pub const ROOM_FOR_LIST: usize = 13_512;
 pub const ROOM_FOR_VALUES: usize = 7_680;
 pub const ROOM_FOR_LOG: usize = 2_560;
 
+/// The most lists that one call of `judge_shelf` takes.
+pub const LONGEST_SHELF: usize = 64;
+
 /// The archive that is linked here, so that a program can hand on just that one.
 pub static ARCHIVE: &[u8] = include_bytes!(env!("MIRVASHOL_ARCHIVE"));
 
@@ -195,6 +198,29 @@ pub fn compile(table: &[u8]) -> Result<Vec<u8>, Refusal> {
 /// Judges a list against a table: the table's numbers 1 to 10, the list's 1 to 5, then 11 to 13.
 pub fn judge(table: &[u8], list: &[u8]) -> Verdict {
     answered(|answer| raw::judge(table, list, answer)).map(|_| ())
+}
+
+/// Judges lists of one table, at most `LONGEST_SHELF` of them, in one call: for each what `judge` says of it by itself. A refusal of the whole is the
+/// table's, or number 3 where the lists are too many.
+pub fn judge_shelf(table: &[u8], lists: &[&[u8]]) -> Result<Vec<Verdict>, Refusal> {
+    let lengths: Vec<u64> = lists.iter().map(|list| list.len() as u64).collect();
+    let laid = lists.concat();
+    let verdicts = written(4 * lists.len(), |out, answer| {
+        raw::judge_shelf(table, &laid, &lengths, out, answer)
+    })?;
+    Ok(verdicts.chunks_exact(4).map(verdict).collect())
+}
+
+/// A verdict of a shelf: number, file and 16-bit place; all 0 where the list is accepted.
+fn verdict(bytes: &[u8]) -> Verdict {
+    if bytes[0] == 0 {
+        return Ok(());
+    }
+    Err(Refusal {
+        number: bytes[0].into(),
+        file: bytes[1].into(),
+        place: u16::from_be_bytes([bytes[2], bytes[3]]).into(),
+    })
 }
 
 /// Judges a list and runs it on a trace: the judge's numbers, the trace's 1 to 6, then 14.
