@@ -1,11 +1,11 @@
 -- Messages, supply and types as a run keeps them. Assumes nothing.
 use mathlib.Core.Path.{_≡_, refl, sym, ap, _∙_}
 use mathlib.Core.Bool.{Bool, true}
-use mathlib.Core.List.{List, [], _∷_, _++_}
+use mathlib.Core.List.{List, [], _∷_}
 use Prim.Native.Nat.{ℕ, suc, _+_, _-_, _*_, _<_, _≤_}
 use native.Mathlib.Omega.{arith}
 use native.Mathlib.Numerals.{add-one}
-use lib.ListN.{length, drop, length-append, take-append-drop, List·getD-eq-default}
+use lib.ListN.{length, length-append, List·getD-eq-default}
 use Rattle.base.specs.Bytes.{byte}
 use Rattle.entries.specs.Tiling.{listed, joined}
 use Rattle.entries.specs.Words.{Bytes}
@@ -23,6 +23,7 @@ use Rattle.running.specs.Demand3.{typesOf}
 use Rattle.value_table.specs.Kept.{Kept, Appended}
 use Rattle.value_table.proofs.Keeping.{five-length, joined-more, joined-length, kept-table}
 use Rattle.visible.specs.Seen.{Seen}
+use Rattle.visible.proofs.WalkLaws.{seen-part}
 use Rattle.run_parts.specs.Messages.{directionNumber, messageBytes, Says}
 use Rattle.run_parts.specs.Types.{TypesAre, Passes}
 use Rattle.run_parts.specs.Supply.{Left}
@@ -68,13 +69,9 @@ supply-next tr n h = record { among = omega arith; rest = refl }
 
 -- ── Types ──
 
-pub passes-typed : (l : List ℕ) (x : ℕ) (values : List ℕ) (n v p : ℕ) (r : Bool) → x < symbols l → p ≡ typeAt l x + 1 → Seen l p values n v r → Passes l x values n v r
-passes-typed l x values n v p r h q k = record {
-  passes = λ As t.
-      let e = t .bytes-are x h in
-      let f : drop p l ≡ bytes (typesOf signature1 As x) ++ drop (byte l (typeAt l x)) (drop p l) =
-      rw (← e, q) (sym (take-append-drop (byte l (typeAt l x)) (drop (typeAt l x + 1) l))) in
-      k .seen (typesOf signature1 As x) _ f;
+pub passes-typed : (l : List ℕ) (x : ℕ) (values : List ℕ) (n v p : ℕ) (r : Bool) → Bytes l → x < symbols l → p ≡ typeAt l x + 1 → Seen l p values n v r → Passes l x values n v r
+passes-typed l x values n v p r b h q k = record {
+  passes = λ As t. let k′ : Seen l (typeAt l x + 1) values n v r = rw q at k in seen-part k′ (byte l (typeAt l x)) (omega (arith, b (typeAt l x))) (typesOf signature1 As x) (t .bytes-are x h);
 }
 
 pub passes-message : (l : List ℕ) (x : ℕ) (values : List ℕ) (n v : ℕ) → symbols l ≤ x → Passes l x values n v true

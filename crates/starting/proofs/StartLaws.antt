@@ -1,18 +1,19 @@
 -- Starting values tested one after the other. Assumes nothing.
 use mathlib.Core.Path.{_≡_, refl, sym, _∙_}
 use mathlib.Core.Bool.{Bool, true, false, not}
-use mathlib.Core.List.{List, [], _∷_, _++_}
+use mathlib.Core.List.{List, [], _∷_}
 use Prim.Native.Nat.{ℕ, suc, _+_, _≤_, _<_, min}
 use native.Mathlib.Nat.{min-eq-left, min-eq-right, eq-or-lt-of-le}
 use mathlib.Core.Logic.{_⊎_, inl, inr}
 use native.Mathlib.Omega.{arith}
-use lib.ListN.{length, take, drop, getD, take-append-drop, length-drop}
+use lib.ListN.{length, take, drop, getD, length-drop}
 use lib.Seq.{take-all}
 use Rattle.base.specs.Bytes.{byte}
 use Rattle.answers.specs.Ladder.{refusal, least}
 use Rattle.answers.specs.declared.Check.{Check}
 use Rattle.answers.specs.declared.Check.the-variants.{Pass, Refuse}
 use Rattle.entries.specs.Tiling.{listed}
+use Rattle.entries.specs.Words.{Bytes}
 use Rattle.entries.proofs.Tiling.{listed-length}
 use Rattle.table_layout.specs.Layout as table-layout
 use Rattle.table.specs.Faults.{tableRungs}
@@ -21,7 +22,6 @@ use Rattle.trace.specs.Layout.{values, startings, starting}
 use Rattle.trace.specs.Faults.{traceRungs}
 use Rattle.trace.proofs.Passes.{trace-passes}
 use Rattle.types.specs.Types.{Ty}
-use Rattle.types.specs.Version1.{bytes}
 use Rattle.calculus.specs.Terms.{Atom, bound}
 use Rattle.calculus.specs.Tables.{Entry}
 use Rattle.calculus.specs.Version1.{signature1}
@@ -36,6 +36,7 @@ use Rattle.decoded_list.specs.Decoded.{Decoded}
 use Rattle.decoded_list.proofs.Once.{decoded-body}
 use Rattle.value_table.proofs.Reading.{part-table}
 use Rattle.visible.specs.Seen.{Seen}
+use Rattle.visible.proofs.WalkLaws.{seen-part}
 use Rattle.free_symbols.specs.Free.{Lists}
 use Rattle.starting.specs.Fourteen.{startFits, starts, wrong-number, lacks, StartsChecked, StartSeen}
 
@@ -48,19 +49,14 @@ header-whole tr e = let l = trace-passes tr .0 e .framed .whole-length in omega 
 pub seen-short : (l tr : List ℕ) (x i : ℕ) (r : Bool) → length tr < 10 → StartSeen l tr x i r
 seen-short l tr x i r h = record { seen = λ e d g. absurd (omega (arith, header-whole tr e)) }
 
--- the type of symbol x stands in the list after its length byte
-type-there : (l : List ℕ) (d : Decoded l) (x at : ℕ) → x < symbols l → at ≡ typeAt l x + 1
-    → drop at l ≡ bytes (typesOf signature1 (d .types) x) ++ drop (byte l (typeAt l x)) (drop at l)
-type-there l d x at h p = rw (← decoded-body l d x h, p) (sym (take-append-drop (byte l (typeAt l x)) (drop (typeAt l x + 1) l)))
-
--- the part of the trace from its values on is what the test reads
-pub seen-there : (l tr : List ℕ) (x i at n v m : ℕ) (r : Bool) → Seen l at (take m (drop 10 tr)) n v r → length tr ≤ 10 + m → at ≡ typeAt l x + 1 → n ≡ values tr → v ≡ starting tr i
+-- the part of the trace from its values on is what the test reads; the type of symbol x stands in the list after its length byte
+pub seen-there : (l tr : List ℕ) (x i at n v m : ℕ) (r : Bool) → Bytes l → Seen l at (take m (drop 10 tr)) n v r → length tr ≤ 10 + m → at ≡ typeAt l x + 1 → n ≡ values tr → v ≡ starting tr i
     → StartSeen l tr x i r
-seen-there l tr x i at n v m r s k p a b = record {
+seen-there l tr x i at n v m r z s k p a b = record {
   seen = λ e d h.
       let w : take m (drop 10 tr) ≡ drop 10 tr = take-all m (drop 10 tr) (rw length-drop (omega arith)) in
-      let y : Seen l at (drop 10 tr) (values tr) (starting tr i) r = rw (w, a, b) at s in
-      rw (part-table tr) at (y .seen (typesOf signature1 (d .types) x) _ (type-there l d x at h p));
+      let y : Seen l (typeAt l x + 1) (drop 10 tr) (values tr) (starting tr i) r = rw (w, p, a, b) at s in
+      rw (part-table tr) at (seen-part y (byte l (typeAt l x)) (omega (arith, z (typeAt l x))) (typesOf signature1 (d .types) x) (decoded-body l d x h));
 }
 
 -- ── All of them ──

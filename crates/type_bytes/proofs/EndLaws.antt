@@ -107,7 +107,7 @@ copied-none s p z w = record { fits = tt; wrote = λ t x i. absurd (w t x i) }
 
 module _ (s : List ℕ) (p e : ℕ) (w : EndIs codes1 s p (some e)) where
   pub past-end : Past s p e
-  past-end = record { on = omega (arith, w .1); rest = λ t x i. ends-type codes1 code-laws1 s p e w t x i .1 }
+  past-end = record { on = omega (arith, w .1, some-bytes codes1 (w .0)); rest = λ t x i. ends-type codes1 code-laws1 s p e w t x i .1 }
 
   pub end-inside : e ≤ length s
   end-inside = ends-inside codes1 code-laws1 s p e w

@@ -1,2 +1,3 @@
 -- Laws of the visible-type test.
 pub mod SeenLaws
+pub mod WalkLaws

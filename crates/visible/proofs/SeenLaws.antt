@@ -1,19 +1,17 @@
--- The visible-type test: one law for each way out. Assumes nothing.
-use mathlib.Core.Path.{_≡_, refl, sym, _∙_}
+-- What a value visibly is, by its entry, by its tag, and by a type's first code. Assumes nothing.
+use mathlib.Core.Path.{_≡_, refl, sym}
 use mathlib.Core.Bool.{Bool, true, false, decide, _&&_}
 use mathlib.Core.Option.{Option·elim}
-use mathlib.Core.List.{List, _++_}
-use Prim.Native.Nat.{ℕ, zero, suc, _+_, _<_, _≤_}
+use mathlib.Core.List.{List}
+use Prim.Native.Nat.{ℕ, zero, suc, _+_, _<_}
 use native.Mathlib.Omega.{arith}
 use lib.Dec.{eqb}
-use lib.ListN.{length, drop, getD}
 use borrow.Author.Tests.{ne-eqb}
 use Rattle.base.specs.Pick.{pick}
 use Rattle.types.specs.Forest.{under, within}
 use Rattle.types.specs.Types.{Message, Basic, Cipher, Pair}
-use Rattle.types.specs.Version1.{T, bytes, name, channel, shkey, shared, parent1, depth1, forest1}
-use Rattle.type_bytes.specs.Ends.{Past}
-use Rattle.type_bytes.proofs.EndLaws.{tag, no-type, head-is, in-pair, as-message, as-pair, as-cipher}
+use Rattle.types.specs.Version1.{T, name, channel, shkey, shared, parent1, depth1, forest1}
+use Rattle.type_bytes.proofs.EndLaws.{tag}
 use Rattle.calculus.specs.Signature.{pairing, seal}
 use Rattle.calculus.specs.Terms.{Atom, atom, build2}
 use Rattle.calculus.specs.Tables.{Entry, leafEntry, kindEntry, entryAt}
@@ -22,7 +20,7 @@ use Rattle.running.specs.Values.{visible, basicShape, pairShape, cipherShape, e
 use Rattle.decoded.proofs.ValueLaws.{noAtom}
 use Rattle.value_table.specs.Values.{tableAt, tagAt, partAt}
 use Rattle.value_table.proofs.Reading.{tag-small, entry-atom, entry-pair, entry-seal}
-use Rattle.visible.specs.Seen.{atomOf, Seen}
+use Rattle.visible.specs.Seen.{atomOf, leafOf}
 
 -- ── What an atom visibly is ──
 
@@ -51,7 +49,7 @@ under-shkey (suc (suc (suc k))) = sym (ne-eqb (suc (suc (suc k)) + 1) 3 λ e. om
 -- ── By the entry of the value ──
 
 module _ (es : List (Entry signature1 Atom)) (v : ℕ) where
-  abbrev sees : T → Bool
+  abbrev pub sees : T → Bool
   sees A = visible signature1 (index signature1 es) A v
 
   atom-sees : (A : T) (k m : ℕ) → entryAt signature1 noAtom es v ≡ leafEntry (atom k m) → 0 < tag A → tag A < 4 → sees A ≡ pick (eqb (tag A) 1) true (eqb (k + 1) (tag A))
@@ -97,7 +95,7 @@ module _ (es : List (Entry signature1 Atom)) (v : ℕ) where
   unfolding visible pairShape entryShape
   seal-not-pair A B a b e = rw e
 
-  pair-sees : (A B : T) (a b : ℕ) → entryAt signature1 noAtom es v ≡ kindEntry (build2 pairing a b)
+  pub pair-sees : (A B : T) (a b : ℕ) → entryAt signature1 noAtom es v ≡ kindEntry (build2 pairing a b)
       → sees (Pair A B) ≡ (visible signature1 (index signature1 es) A a && visible signature1 (index signature1 es) B b)
   unfolding visible pairShape entryShape
   pair-sees A B a b e = rw e
@@ -118,72 +116,23 @@ module _ (s : List ℕ) (n v : ℕ) where
   cipher-by-tag (suc (suc zero)) p A = sym (seal-cipher (tableAt s n) v A _ _ (entry-seal s n v (sym p)))
   cipher-by-tag (suc (suc (suc t))) p A = absurd (let z = tag-small s n v in omega arith)
 
-  no-pair-by-tag : (t : ℕ) → t ≡ tagAt s n v → ¬ (t ≡ 1) → (A B : T) → sees (tableAt s n) v (Pair A B) ≡ false
+  pub no-pair-by-tag : (t : ℕ) → t ≡ tagAt s n v → ¬ (t ≡ 1) → (A B : T) → sees (tableAt s n) v (Pair A B) ≡ false
   no-pair-by-tag zero p d A B = atom-not-pair (tableAt s n) v A B _ (entry-atom s n v (sym p))
   no-pair-by-tag (suc zero) p d A B = absurd (d refl)
   no-pair-by-tag (suc (suc zero)) p d A B = seal-not-pair (tableAt s n) v A B _ _ (entry-seal s n v (sym p))
   no-pair-by-tag (suc (suc (suc t))) p d A B = absurd (let z = tag-small s n v in omega arith)
 
--- ── Ways out ──
+-- ── By the type's first code ──
 
-pub seen-past : (t s : List ℕ) (p n v : ℕ) (r : Bool) → length t ≤ p → Seen t p s n v r
-seen-past t s p n v r h = record { seen = λ A x e. absurd (no-type t p A x h e) }
-
-module _ (t s : List ℕ) (p n v : ℕ) (h : p < length t) where
-  pub seen-message : getD t p 0 ≡ 0 → Seen t p s n v true
-  unfolding visible
-  seen-message z = record { seen = λ A x e. let q : A ≡ Message = as-message A (sym z ∙ head-is t p h A x e) in rw q }
-
-  module _ (nz : ¬ (getD t p 0 ≡ 0)) (k a : ℕ) (hk : k ≡ tagAt s n v) (ha : a ≡ partAt s n v 0) where
-    pub seen-basic : (r : Bool) → getD t p 0 < 4 → r ≡ atomOf (getD t p 0) k a → Seen t p s n v r
-    seen-basic r l q = record {
-      seen = λ A x e.
-          let d : getD t p 0 ≡ tag A = head-is t p h A x e in
-          let q′ : r ≡ atomOf (tag A) k a = rw d at q in
-          q′ ∙ basic-by-tag s n v k a hk ha A (omega (arith, nz)) (omega arith);
-    }
-
-    pub seen-cipher : getD t p 0 ≡ 5 → Seen t p s n v (eqb k 2)
-    seen-cipher f = record {
-      seen = λ A x e.
-          let (B, q) = as-cipher A (sym f ∙ head-is t p h A x e) in
-          rw q (cipher-by-tag s n v k hk B);
-    }
-
-    is-pair : ¬ (getD t p 0 < 4) → ¬ (getD t p 0 ≡ 5) → (A : T) → getD t p 0 ≡ tag A → 4 ≡ tag A
-    unfolding tag
-    is-pair u w Message e = absurd (omega (arith, u))
-    is-pair u w (Basic name) e = absurd (u (omega arith))
-    is-pair u w (Basic channel) e = absurd (u (omega arith))
-    is-pair u w (Basic shkey) e = absurd (u (omega arith))
-    is-pair u w (Pair a b) e = refl
-    is-pair u w (Cipher shared a) e = absurd (w e)
-
-    module _ (u : ¬ (getD t p 0 < 4)) (w : ¬ (getD t p 0 ≡ 5)) where
-      pub seen-not-pair : ¬ (k ≡ 1) → Seen t p s n v false
-      seen-not-pair d = record {
-        seen = λ A x e.
-            let (B, C, q) = as-pair A (is-pair u w A (head-is t p h A x e)) in
-            rw q (sym (no-pair-by-tag s n v k hk d B C));
-      }
-
-      pub seen-left : k ≡ 1 → Seen t (p + 1) s n a false → Seen t p s n v false
-      seen-left d l = record { seen = λ A x e. go A x e (as-pair A (is-pair u w A (head-is t p h A x e))) }
-        where
-          go : (A : T) (x : List ℕ) → drop p t ≡ bytes A ++ x → (B : T) × (C : T) × (A ≡ Pair B C) → false ≡ visible signature1 (index signature1 (tableAt s n)) A v
-          go A x e (B, C, q) =
-              let e′ : drop p t ≡ bytes (Pair B C) ++ x = rw q at e in
-              rw (q, pair-sees (tableAt s n) v B C _ _ (entry-pair s n v (sym hk ∙ d)), sym ha, ← l .seen B (bytes C ++ x) (in-pair t p h B C x e′))
-
-      pub seen-both : (b m : ℕ) (r : Bool) → k ≡ 1 → b ≡ partAt s n v 1 → Past t (p + 1) m → Seen t (p + 1) s n a true → Seen t m s n b r → Seen t p s n v r
-      seen-both b m r d hb f l g = record { seen = λ A x e. go A x e (as-pair A (is-pair u w A (head-is t p h A x e))) }
-        where
-          go : (A : T) (x : List ℕ) → drop p t ≡ bytes A ++ x → (B : T) × (C : T) × (A ≡ Pair B C) → r ≡ visible signature1 (index signature1 (tableAt s n)) A v
-          go A x e (B, C, q) =
-              let e′ : drop p t ≡ bytes (Pair B C) ++ x = rw q at e in
-              let i = in-pair t p h B C x e′ in
-              rw (q, pair-sees (tableAt s n) v B C _ _ (entry-pair s n v (sym hk ∙ d)), sym ha, sym hb, ← l .seen B (bytes C ++ x) i)
-              (g .seen C x (f .rest B (bytes C ++ x) i))
+-- a type that is no pair is decided by its code, and the value's tag and first number
+pub leaf-is : (s : List ℕ) (n v : ℕ) (A : T) → ¬ (tag A ≡ 4) → leafOf (tag A) (tagAt s n v) (partAt s n v 0) ≡ sees (tableAt s n) v A
+unfolding leafOf tag visible
+leaf-is s n v Message d = refl
+leaf-is s n v (Basic name) d = basic-by-tag s n v _ _ refl refl (Basic name) (omega arith) (omega arith)
+leaf-is s n v (Basic channel) d = basic-by-tag s n v _ _ refl refl (Basic channel) (omega arith) (omega arith)
+leaf-is s n v (Basic shkey) d = basic-by-tag s n v _ _ refl refl (Basic shkey) (omega arith) (omega arith)
+leaf-is s n v (Pair a b) d = absurd (d refl)
+leaf-is s n v (Cipher shared a) d = cipher-by-tag s n v _ refl a
 
 -- ── An atom by its kind ──
 
@@ -198,3 +147,17 @@ atom-kind b t k e f = rw (e, ne-eqb b 1 f)
 pub not-atom : (b t k : ℕ) → ¬ (t ≡ 0) → false ≡ atomOf b t k
 unfolding atomOf
 not-atom b t k f = rw (ne-eqb t 0 f)
+
+-- ── A type that is no pair by its code ──
+
+pub leaf-message : (b t k : ℕ) → b ≡ 0 → true ≡ leafOf b t k
+unfolding leafOf
+leaf-message b t k e = rw e
+
+pub leaf-cipher : (b t k : ℕ) → b ≡ 5 → eqb t 2 ≡ leafOf b t k
+unfolding leafOf
+leaf-cipher b t k e = rw e
+
+pub leaf-basic : (b t k : ℕ) → ¬ (b ≡ 0) → ¬ (b ≡ 5) → atomOf b t k ≡ leafOf b t k
+unfolding leafOf
+leaf-basic b t k e f = rw (ne-eqb b 0 e, ne-eqb b 5 f)

@@ -1,2 +1,3 @@
 -- What the promises of `visible` speak of.
 pub mod Seen
+pub mod Pending

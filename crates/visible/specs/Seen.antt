@@ -2,9 +2,9 @@
 use mathlib.Core.Path.{_≡_}
 use mathlib.Core.Bool.{Bool, true}
 use mathlib.Core.List.{List, _++_}
-use Prim.Native.Nat.{ℕ, _+_}
+use Prim.Native.Nat.{ℕ, _+_, _≤_}
 use lib.Dec.{eqb}
-use lib.ListN.{drop}
+use lib.ListN.{length, drop}
 use Rattle.base.specs.Pick.{pick, both}
 use Rattle.types.specs.Version1.{T, bytes}
 use Rattle.calculus.specs.Version1.{signature1}
@@ -15,6 +15,10 @@ use Rattle.value_table.specs.Values.{tableAt}
 unfoldable pub atomOf : ℕ → ℕ → ℕ → Bool
 atomOf b tag kind = both (eqb tag 0) (pick (eqb b 1) true (eqb (kind + 1) b))
 
--- the answer r: whether value v of the first n visibly has the type at p of t
+-- a value of this tag and first number has the type of code b, which is no pair: 0 Message, 5 a ciphertext, whose inside is unseen
+unfoldable pub leafOf : ℕ → ℕ → ℕ → Bool
+leafOf b tag kind = pick (eqb b 0) true (pick (eqb b 5) (eqb tag 2) (atomOf b tag kind))
+
+-- the answer r: whether value v of the first n visibly has the type of at most 255 bytes that stands at p of t
 pub record Seen (t : List ℕ) (p : ℕ) (values : List ℕ) (n v : ℕ) (r : Bool) : Type 0 where
-  pub seen : (A : T) (x : List ℕ) → _≡_ {A = List ℕ} (drop p t) (bytes A ++ x) → r ≡ visible signature1 (index signature1 (tableAt values n)) A v
+  pub seen : (A : T) (x : List ℕ) → _≡_ {A = List ℕ} (drop p t) (bytes A ++ x) → length (bytes A) ≤ 255 → r ≡ visible signature1 (index signature1 (tableAt values n)) A v

@@ -50,7 +50,7 @@ visible-at-requires c κs = search needs
 returns-2 : tie.Need-returns-2
 returns-2 c =
     let s : List ℕ = c .before .before .before .before .before .before .before .before .args .trace .now in
-    seen-there _ s _ _ _ _ _ (length s - 10) _ (c .visible-at .ensures) (omega (arith, c .before .before .before .before .before .if1 .left)) (omega (arith, c .before .before .before .before .type-at .ensures)) (c .before .before .before .value-count .ensures) (c .before .before .starting-at .ensures)
+    seen-there _ s _ _ _ _ _ (length s - 10) _ (slice-bytes _ (c .before .before .before .before .before .before .before .shared-slice-known .given)) (c .visible-at .ensures) (omega (arith, c .before .before .before .before .before .if1 .left)) (omega (arith, c .before .before .before .before .type-at .ensures)) (c .before .before .before .value-count .ensures) (c .before .before .starting-at .ensures)
 
 pub start-seen-spec : {M : Type 1} → statement M
 start-seen-spec =
