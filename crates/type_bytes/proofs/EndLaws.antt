@@ -55,7 +55,7 @@ no-type s p t x h e = not-empty codes1 t x (sym (drop-of-length-le s h) ∙ e)
 
 -- the parts of the type at p
 module _ (s : List ℕ) (p : ℕ) (h : p < length s) where
-  from : drop p s ≡ getD s p 0 ∷ drop (p + 1) s
+  pub from : drop p s ≡ getD s p 0 ∷ drop (p + 1) s
   from = rw add-one (drop-cons s p 0 h)
 
   pub head-is : (t : T) (x : List ℕ) → drop p s ≡ bytes t ++ x → getD s p 0 ≡ tag t

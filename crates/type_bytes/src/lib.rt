@@ -18,25 +18,26 @@ pub enum Lower {
     Apart,
 }
 
-// Where the type that starts at p ends.
+// Where the type that starts at p ends. One type is wanted at first; each code takes one off, and adds those that follow it.
 pub fn type_end(s: &[u8], p: usize) -> End
     ensures { λ r. ⌜ EndIs codes1 (now (s .entry)) p (endOf r) ⌝ }
 {
-    if s.len() <= p {
-        return End::Bad;
-    }
-    let b = s[p];
-    match b {
-        0..=3 => End::At(p + 1),
-        4 => {
-            let End::At(m) = type_end(s, p + 1) else {
-                return End::Bad;
-            };
-            type_end(s, m)
+    let mut wanted: usize = 1;
+    let mut at = p;
+    while 0 < wanted {
+        if s.len() <= at {
+            return End::Bad;
         }
-        5 => type_end(s, p + 1),
-        6..=255 => End::Bad,
+        let b = s[at];
+        at += 1;
+        match b {
+            0..=3 => wanted -= 1,
+            4 => wanted += 1,
+            5 => {}
+            6..=255 => return End::Bad,
+        }
     }
+    End::At(at)
 }
 
 // Where the type at p ends; the end of s where there is none.
