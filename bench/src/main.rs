@@ -2,6 +2,7 @@
 //! the faster one.
 //!
 //! `bench [SERVICE..]` measures the named services, or all. Not part of the gate: the figures depend on what else runs.
+//! `bench stack` measures the stack that each exported function needs instead; its status says whether all keep to the goal.
 //! A further service is one further module with its `rows`, its line in `SERVICES`, and its name in `tools/bench`.
 
 mod inputs;
@@ -9,6 +10,7 @@ mod judge;
 mod measure;
 mod readers;
 mod run;
+mod stack;
 mod tables;
 
 use std::process::ExitCode;
@@ -30,6 +32,9 @@ const SERVICES: &[(&str, fn() -> Vec<Row>)] = &[
 
 fn main() -> ExitCode {
     let asked: Vec<String> = std::env::args().skip(1).collect();
+    if asked == ["stack"] {
+        return ExitCode::from(u8::from(!stack::measure()));
+    }
     let known: Vec<&str> = SERVICES.iter().map(|(name, _)| *name).collect();
     if let Some(word) = asked.iter().find(|word| !known.contains(&word.as_str())) {
         eprintln!("bench: there is no service '{word}'; there are {}", known.join(", "));

@@ -155,9 +155,9 @@ pub const COMMANDS: &[Command] = &[
     },
     Command {
         name: "bench",
-        usage: "[SERVICE..]",
+        usage: "[SERVICE..] | stack",
         purpose: "times the proved code against the second implementation (in the repository)",
-        help: "",
+        help: "'bench stack' measures the deepest stack of each exported function instead.",
         options: &[],
         names: (0, MANY),
         perform: help::in_repository,

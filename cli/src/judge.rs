@@ -47,13 +47,7 @@ fn judge_some(table: &[u8], shelf: &[Source], quiet: bool) -> Result<Status, Tro
 }
 
 /// The line of one list, and what it means.
-fn say_verdict(
-    table: &[u8],
-    source: &Source,
-    list: &[u8],
-    verdict: Verdict,
-    quiet: bool,
-) -> Result<Status, Trouble> {
+fn say_verdict(table: &[u8], source: &Source, list: &[u8], verdict: Verdict, quiet: bool) -> Result<Status, Trouble> {
     match verdict {
         Ok(()) => {
             say(format!("{}: accepted\n", source.name()).as_bytes())?;

@@ -28,7 +28,8 @@ pub fn trace(rng: &mut Rng, table: &[u8], list: &[u8], kind: TraceKind) -> Optio
         TraceKind::Supplied(sits) => {
             let places = places_of(&judged_list, 6);
             let fresh = sits == Sits::InValuesNotHeld;
-            let wanted = |at, answer: &Answer| (answer[3] == 6 && answer[4] == at as u64) != fresh && answer[4] >= at as u64;
+            let wanted =
+                |at, answer: &Answer| (answer[3] == 6 && answer[4] == at as u64) != fresh && answer[4] >= at as u64;
             tried(rng, table, list, &places, wanted, |rng, at| {
                 reach(rng, &parsed, &judged_list, at, Goal::Supplied(sits))
             })
