@@ -2,3 +2,4 @@
 pub mod Terms
 pub mod Slots
 pub mod Push
+pub mod Descent

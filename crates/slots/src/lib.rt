@@ -3,11 +3,13 @@
 use type_bytes::Lower;
 ghost use mathlib.Core.Path.{_≡_};
 ghost use mathlib.Core.List.{[], _∷_};
-ghost use Prim.Native.Nat.{_*_};
+ghost use Prim.Native.Nat.{_*_, _+_, _-_, _<_, _≤_};
 ghost use Rattle.types.specs.Version1.{bytes};
+ghost use Rattle.type_bytes.specs.Pending.{stacked};
 ghost use Rattle.slots.specs.Terms.{codeAt, partAt};
 ghost use Rattle.slots.specs.Slots.{Met, widestOf, Started, StartedAll};
 ghost use Rattle.slots.specs.Push.{Pushed};
+ghost use Rattle.slots.specs.Descent.{pendingOf};
 
 // The code of term t, and its part j. Past the end stands symbol 0, as in the meaning of a table.
 pub fn term_code(table: &[u8], t: u8) -> u8
@@ -85,35 +87,102 @@ fn slot_meet(work: &mut [u8], s: u8, ty: &[u8], p: usize) -> bool
     true
 }
 
-// Pushes the type at p of ty down term t: what each symbol in reach has to be is met into its slot.
+// The terms that have still to take a type, the next one last, and how many they are. A type of at most 259 bytes never leaves more than 130.
+pub struct Descent {
+    pub pending: [u8; 130],
+    pub depth: usize,
+}
+
+// One term is to take a type.
+fn begin(t: u8) -> Descent
+    ensures { λ r. ⌜ pendingOf r ≡ t ∷ [] ⌝ }
+    ensures depth { λ r. ⌜ r .depth ≡ 1 ⌝ }
+{
+    Descent {
+        pending: [t; 130],
+        depth: 1,
+    }
+}
+
+// The next term has taken its type.
+fn taken(d: Descent) -> Descent
+    requires { ⌜ 0 < d .depth ⌝ }
+    ensures { λ r. ⌜ pendingOf r ≡ stacked (d .pending) (d .depth - 1) ⌝ }
+    ensures depth { λ r. ⌜ r .depth ≡ d .depth - 1 ⌝ }
+{
+    let mut n = d;
+    n.depth -= 1;
+    n
+}
+
+// The next term is a pair: its parts come in its place, the left one next.
+fn parted(d: Descent, left: u8, right: u8) -> Descent
+    requires { ⌜ (0 < d .depth) × (d .depth < 130) ⌝ }
+    ensures { λ r. ⌜ pendingOf r ≡ left ∷ right ∷ stacked (d .pending) (d .depth - 1) ⌝ }
+    ensures depth { λ r. ⌜ r .depth ≡ d .depth + 1 ⌝ }
+{
+    let end = d.depth;
+    let last = end - 1;
+    let mut n = d;
+    n.pending[last] = right;
+    n.pending[end] = left;
+    n.depth = end + 1;
+    n
+}
+
+// The next term is a ciphertext: its inside comes in its place.
+fn opened(d: Descent, inside: u8) -> Descent
+    requires { ⌜ (0 < d .depth) × (d .depth ≤ 130) ⌝ }
+    ensures { λ r. ⌜ pendingOf r ≡ inside ∷ stacked (d .pending) (d .depth - 1) ⌝ }
+    ensures depth { λ r. ⌜ r .depth ≡ d .depth ⌝ }
+{
+    let end = d.depth;
+    let last = end - 1;
+    let mut n = d;
+    n.pending[last] = inside;
+    n
+}
+
+// Pushes the type of at most 259 bytes at p of ty down term t: what each symbol in reach has to be is met into its slot.
 // The walk follows the type's bytes, and not the term.
 pub fn push(work: &mut [u8], table: &[u8], t: u8, ty: &[u8], p: usize) -> bool
     ensures { λ r. ⌜ Pushed (now (work .entry)) (now (table .entry)) t (now (ty .entry)) p (now (work .exit)) r ⌝ }
 {
-    if ty.len() <= p {
-        return false;
-    }
-    let b = ty[p];
-    if b == 0 {
-        return true;
-    }
-    let kind = term_code(table, t);
-    let i = term_part(table, t, 0);
-    if kind == 0 {
-        return slot_meet(work, i, ty, p);
-    }
-    if kind == 1 {
-        if b != 4 {
+    let mut d = begin(t);
+    let mut at = p;
+    while 0 < d.depth {
+        if ty.len() <= at {
             return false;
         }
-        if push(work, table, i, ty, p + 1) {
-            let m = type_bytes::past(ty, p + 1);
-            return push(work, table, term_part(table, t, 1), ty, m);
+        let b = ty[at];
+        let u = d.pending[d.depth - 1];
+        let kind = term_code(table, u);
+        let i = term_part(table, u, 0);
+        if b == 0 {
+            d = taken(d);
+            at = type_bytes::past(ty, at);
+        } else if kind == 0 {
+            if !slot_meet(work, i, ty, at) {
+                return false;
+            }
+            d = taken(d);
+            at = type_bytes::past(ty, at);
+        } else if kind == 1 {
+            if b != 4 {
+                return false;
+            }
+            if 130 <= d.depth {
+                return false;
+            }
+            d = parted(d, i, term_part(table, u, 1));
+            at += 1;
+        } else {
+            if b != 5 {
+                return false;
+            }
+            d = opened(d, i);
+            at += 1;
         }
-        return false;
     }
-    if b != 5 {
-        return false;
-    }
-    push(work, table, i, ty, p + 1)
+    true
 }

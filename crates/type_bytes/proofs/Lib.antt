@@ -3,3 +3,4 @@ pub mod EndLaws
 pub mod CountLaws
 pub mod HowLaws
 pub mod MeetLaws
+pub mod PendingLaws

@@ -44,7 +44,7 @@ module _ (w s : List ℕ) (u : ℕ) (b : Bool) (hb : b ≡ true) (c : ℕ) (hc :
   pub key-some : (j : ℕ) (o : List ℕ) (r : Bool) → c ≡ 2 → j ≡ partAt s u 1 → Pushed w s j (3 ∷ []) 0 o r → KeyPut w s u b o r
   unfolding needsAt needs pushAll encoded code1
   key-some j o r e q v = record {
-    left = λ Γ t h. rw (hb, entry-seal s u (sym hc ∙ e), ← q) (left-bind _ o r (v .left Γ (Basic shkey) [] t h refl));
+    left = λ Γ t h. rw (hb, entry-seal s u (sym hc ∙ e), ← q) (left-bind _ o r (v .left Γ (Basic shkey) [] t h refl (omega arith)));
   }
 
 -- ── The loop over the terms ──

@@ -84,6 +84,16 @@ module _ (w z : List ℕ) (h : ℕ) (hz : 259 ≤ length z) (x : ℕ) (y₁ : Li
 
 -- ── The wants of each kind of step ──
 
+-- what is wanted has at most 259 bytes
+pair-small : (w : List ℕ) (x y : ℕ) (Γ : Env signature1) → x < 96 → y < 96 → Holds w Γ → length (bytes (Pair (Γ x) (Γ y))) ≤ 259
+unfolding encoded code1
+pair-small w x y Γ h k d =
+    omega (arith, length-append (bytes (Γ x)) (bytes (Γ y)), slot-small w x (x * 129) (x * 129 + 129) refl refl Γ h d, slot-small w y (y * 129) (y * 129 + 129) refl refl Γ k d)
+
+cipher-small : (w : List ℕ) (x : ℕ) (Γ : Env signature1) → x < 96 → Holds w Γ → length (bytes (Cipher shared (Γ x))) ≤ 259
+unfolding encoded code1
+cipher-small w x Γ h d = omega (arith, slot-small w x (x * 129) (x * 129 + 129) refl refl Γ h d)
+
 module _ (w s : List ℕ) (k : ℕ) where
   pub split-put : (a x y : ℕ) (o q : List ℕ) (r : Bool) → a ≡ stepField s k 0 → x ≡ stepField s k 2 → y ≡ stepField s k 3
       → PairPut w x y q → Pushed w s a q 0 o r → SplitPut w s k o r
@@ -91,7 +101,7 @@ module _ (w s : List ℕ) (k : ℕ) where
     left = λ Γ t h d.
         let (f, g) = t .slotted-steps k h in
         let (l, i) = p .wrote Γ (rw hx f) (rw hy g) d in
-        rw (← ha, ← hx, ← hy) (v .left Γ (Pair (Γ x) (Γ y)) l t d i);
+        rw (← ha, ← hx, ← hy) (v .left Γ (Pair (Γ x) (Γ y)) l t d i (pair-small w x y Γ (rw hx f) (rw hy g) d));
   }
 
   module _ (a x : ℕ) (q o₁ : List ℕ) (ha : a ≡ stepField s k 0) (hx : x ≡ stepField s k 2) (p : CipherPut w x q) where
@@ -100,7 +110,7 @@ module _ (w s : List ℕ) (k : ℕ) where
     open-stop v = record {
       left = λ Γ t h d.
           let (l, i) = p .wrote Γ (rw hx (t .slotted-steps k h .0)) d in
-          rw (← ha, ← hx, v .left Γ (Cipher shared (Γ x)) l t d i);
+          rw (← ha, ← hx, v .left Γ (Cipher shared (Γ x)) l t d i (cipher-small w x Γ (rw hx (t .slotted-steps k h .0)) d));
     }
 
     pub open-put : (b : ℕ) (o : List ℕ) (r : Bool) → b ≡ stepField s k 1 → Pushed w s a q 0 o₁ true → Pushed o₁ s b (3 ∷ []) 0 o r → OpenPut w s k o r
@@ -108,8 +118,8 @@ module _ (w s : List ℕ) (k : ℕ) where
     open-put b o r hb v u = record {
       left = λ Γ t h d.
           let (l, i) = p .wrote Γ (rw hx (t .slotted-steps k h .0)) d in
-          let (Θ, f, g) = v .left Γ (Cipher shared (Γ x)) l t d i in
-          rw (← ha, ← hx, ← hb, f) (left-bind _ o r (u .left Θ (Basic shkey) [] t g refl));
+          let (Θ, f, g) = v .left Γ (Cipher shared (Γ x)) l t d i (cipher-small w x Γ (rw hx (t .slotted-steps k h .0)) d) in
+          rw (← ha, ← hx, ← hb, f) (left-bind _ o r (u .left Θ (Basic shkey) [] t g refl (omega arith)));
     }
 
   module _ (op : ℕ) (hop : op ≡ codeOf s k) where
@@ -122,8 +132,8 @@ module _ (w s : List ℕ) (k : ℕ) where
     wants-channel a o r l ha v = go op refl l
       where
         go : (n : ℕ) → op ≡ n → n ≤ 1 → WantsPut w s k o r
-        go zero e l = record { left = λ Γ t h d. rw (act-is 0 e, ← ha) (left-bind _ o r (v .left Γ (Basic channel) [] t d refl)) }
-        go (suc zero) e l = record { left = λ Γ t h d. rw (act-is 1 e, ← ha) (left-bind _ o r (v .left Γ (Basic channel) [] t d refl)) }
+        go zero e l = record { left = λ Γ t h d. rw (act-is 0 e, ← ha) (left-bind _ o r (v .left Γ (Basic channel) [] t d refl (omega arith))) }
+        go (suc zero) e l = record { left = λ Γ t h d. rw (act-is 1 e, ← ha) (left-bind _ o r (v .left Γ (Basic channel) [] t d refl (omega arith))) }
         go (suc (suc n)) e l = absurd (omega arith)
 
     pub wants-nothing : (op ≡ 4 → ⊥) → (op ≡ 5 → ⊥) → 2 ≤ op → WantsPut w s k w true

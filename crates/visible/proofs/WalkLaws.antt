@@ -1,56 +1,23 @@
--- The walk along a type's bytes: the pending values, and one law for each turn and each way out. Assumes nothing.
+-- The walk along a type's bytes: one law for each turn and each way out. Assumes nothing.
 use mathlib.Core.Path.{_≡_, refl, sym, ap, _∙_}
 use mathlib.Core.Bool.{Bool, true, false, _&&_}
 use mathlib.Core.List.{List, [], _∷_, _++_}
-use Prim.Native.Nat.{ℕ, zero, suc, _+_, _-_, _<_, _≤_}
+use Prim.Native.Nat.{ℕ, _+_, _-_, _<_, _≤_}
 use native.Mathlib.Omega.{arith}
-use lib.ListN.{length, take, drop, getD, set, length-append, length-drop, length-set, length-take, take-append-drop}
-use lib.Seq.{getD-set-same, getD-set-other}
+use lib.ListN.{length, take, drop, getD, length-append, length-drop, length-take, take-append-drop}
 use Rattle.types.specs.Types.{Pair}
 use Rattle.types.specs.Prefix.{encoded}
 use Rattle.types.specs.Version1.{T, bytes, code1}
 use Rattle.type_bytes.specs.Ends.{Past}
+use Rattle.type_bytes.specs.Pending.{stacked}
 use Rattle.type_bytes.proofs.EndLaws.{tag, bytes-some, no-type, head-is, in-pair, as-pair}
+use Rattle.type_bytes.proofs.PendingLaws.{next-first, see-length}
 use Rattle.calculus.specs.Version1.{signature1}
 use Rattle.running.specs.Values.{visible, index}
 use Rattle.value_table.specs.Values.{tableAt, tagAt, partAt}
 use Rattle.value_table.proofs.Reading.{entry-pair}
 use Rattle.visible.specs.Seen.{leafOf, Seen}
-use Rattle.visible.specs.Pending.{toSee}
 use Rattle.visible.proofs.SeenLaws.{leaf-is, no-pair-by-tag, pair-sees}
-
--- ── The array of pending values ──
-
-pub next-first : (a : List ℕ) (d : ℕ) → 0 < d → toSee a d ≡ getD a (d - 1) 0 ∷ toSee a (d - 1)
-unfolding toSee
-next-first a zero h = absurd (omega arith)
-next-first a (suc d) h = let e : suc d - 1 ≡ d = omega arith in rw e
-
--- what is written at d or behind it is not among the first d
-pub set-behind : (a : List ℕ) (d i x : ℕ) → d ≤ i → toSee (set a i x) d ≡ toSee a d
-unfolding toSee
-set-behind a zero i x h = refl
-set-behind a (suc d) i x h = rw (getD-set-other a i d x 0 (λ (e : d ≡ i). omega arith), set-behind a d i x (omega arith))
-
-pub see-length : (a : List ℕ) (d : ℕ) → length (toSee a d) ≡ d
-unfolding toSee
-see-length a zero = refl
-see-length a (suc d) = ap suc (see-length a d)
-
--- one value is pending
-pub begun : (a : List ℕ) (x : ℕ) → 0 < length a → toSee (set a 0 x) 1 ≡ x ∷ []
-unfolding toSee
-begun a x h = rw (getD-set-same a 0 x 0 h)
-
--- two values come in the place of the next one
-pub two-for-one : (a : List ℕ) (d l r : ℕ) → 0 < d → d < length a → toSee (set (set a (d - 1) r) d l) (d + 1) ≡ l ∷ r ∷ toSee a (d - 1)
-two-for-one a d l r h k =
-    let q : d + 1 - 1 ≡ d = omega arith in
-    let m : getD (set (set a (d - 1) r) d l) d 0 ≡ l = getD-set-same (set a (d - 1) r) d l 0 (rw (length-set a (d - 1) r) k) in
-    let y : toSee (set (set a (d - 1) r) d l) d ≡ r ∷ toSee a (d - 1) =
-    set-behind (set a (d - 1) r) d d l (omega arith) ∙ next-first (set a (d - 1) r) d h
-    ∙ rw (getD-set-same a (d - 1) r 0 (omega arith), set-behind a (d - 1) (d - 1) r (omega arith)) in
-    next-first (set (set a (d - 1) r) d l) (d + 1) (omega arith) ∙ rw (q, m, y)
 
 -- ── What the walk keeps ──
 
@@ -95,21 +62,21 @@ module _ (t s : List ℕ) (p n v : ℕ) where
   unfolding Goes
   walk-start = record { rest = λ A x e k. (omega (arith, ap length e ∙ length-append (bytes A) x), (A, x, true, e, and-true (sees s n A v), (refl, refl))) }
 
-  pub walk-done : (at : ℕ) (a : List ℕ) (d : ℕ) → d ≡ 0 → Walked t p s n v at (toSee a d) → Seen t p s n v true
-  unfolding Goes toSee
+  pub walk-done : (at : ℕ) (a : List ℕ) (d : ℕ) → d ≡ 0 → Walked t p s n v at (stacked a d) → Seen t p s n v true
+  unfolding Goes stacked
   walk-done at a d z g =
-      let k : Walked t p s n v at (toSee a 0) = rw z at g in
+      let k : Walked t p s n v at (stacked a 0) = rw z at g in
       record { seen = λ A x e l. sym (k .rest A x e l .1 .1) }
 
 -- ── A value is looked at ──
 
 -- value w is the next of d pending ones; vs are the others
-module _ (t s : List ℕ) (p n v at : ℕ) (a : List ℕ) (d : ℕ) (some : 0 < d) (all : Walked t p s n v at (toSee a d)) where
+module _ (t s : List ℕ) (p n v at : ℕ) (a : List ℕ) (d : ℕ) (some : 0 < d) (all : Walked t p s n v at (stacked a d)) where
   abbrev w : ℕ
   w = getD a (d - 1) 0
 
   abbrev vs : List ℕ
-  vs = toSee a (d - 1)
+  vs = stacked a (d - 1)
 
   g : Walked t p s n v at (w ∷ vs)
   g = rw (next-first a d some) at all

@@ -2,9 +2,10 @@
 ghost use mathlib.Core.Path.{_≡_};
 ghost use mathlib.Core.List.{[], _∷_};
 ghost use Prim.Native.Nat.{_+_, _-_, _<_};
+ghost use Rattle.type_bytes.specs.Pending.{stacked};
 ghost use Rattle.value_table.specs.Values.{tagAt, partAt};
 ghost use Rattle.visible.specs.Seen.{atomOf, leafOf, Seen};
-ghost use Rattle.visible.specs.Pending.{toSee, pendingOf};
+ghost use Rattle.visible.specs.Pending.{pendingOf};
 
 // The values still to be looked at, the next one last, and how many they are. A type of at most 255 bytes never leaves more than 128.
 pub struct Walk {
@@ -26,7 +27,7 @@ fn begin(v: u16) -> Walk
 // The next value is seen.
 fn seen(w: Walk) -> Walk
     requires { ⌜ 0 < w .depth ⌝ }
-    ensures { λ r. ⌜ pendingOf r ≡ toSee (w .pending) (w .depth - 1) ⌝ }
+    ensures { λ r. ⌜ pendingOf r ≡ stacked (w .pending) (w .depth - 1) ⌝ }
     ensures depth { λ r. ⌜ r .depth ≡ w .depth - 1 ⌝ }
 {
     let mut n = w;
@@ -37,7 +38,7 @@ fn seen(w: Walk) -> Walk
 // The next value is a pair: its parts come in its place, the left one next.
 fn parted(w: Walk, left: u16, right: u16) -> Walk
     requires { ⌜ (0 < w .depth) × (w .depth < 128) ⌝ }
-    ensures { λ r. ⌜ pendingOf r ≡ left ∷ right ∷ toSee (w .pending) (w .depth - 1) ⌝ }
+    ensures { λ r. ⌜ pendingOf r ≡ left ∷ right ∷ stacked (w .pending) (w .depth - 1) ⌝ }
     ensures depth { λ r. ⌜ r .depth ≡ w .depth + 1 ⌝ }
 {
     let end = w.depth;

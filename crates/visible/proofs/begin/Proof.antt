@@ -1,11 +1,11 @@
 -- `visible::begin` meets its contract. Assumes nothing.
 use mathlib.Core.Path.{refl}
-use Rattle.visible.specs.Pending.{toSee}
+use Rattle.type_bytes.specs.Pending.{stacked}
 use Rattle.visible.proofs.begin.Statement.{statement}
 use Rattle.visible.proofs.begin.Tie as tie
 
 returns : tie.Need-returns
-unfolding toSee
+unfolding stacked
 returns c = (refl, refl)
 
 pub begin-spec : {M : Type 1} → statement M

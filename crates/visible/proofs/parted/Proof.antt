@@ -1,6 +1,6 @@
 -- `visible::parted` meets its contract. Assumes nothing.
 use mathlib.Core.Path.{refl}
-use Rattle.visible.proofs.WalkLaws.{two-for-one}
+use Rattle.type_bytes.proofs.PendingLaws.{two-for-one}
 use borrow.Author.Needs.{needs}
 use Rattle.visible.proofs.parted.Statement.{statement}
 use Rattle.visible.proofs.parted.Tie as tie
