@@ -10,16 +10,18 @@ pub const TYPICAL_TRACE: &[u8] = include_bytes!("../../examples/otway-rees/bob-g
 /// A name k and 127 terms on top of it, pairs of the one before twice and encryptions under k in turn: 2^63 nodes and more.
 /// These steps use them.
 pub fn tower(steps: Vec<[u8; 5]>) -> Vec<u8> {
-    let mut terms = vec![[0, 0, 0]];
-    for i in 0..127 {
-        terms.push(if i % 2 == 0 { [2, i, 0] } else { [1, i, i] });
-    }
     RawTable {
         symbols: vec![0; 96],
-        terms,
+        terms: tower_terms(),
         steps,
     }
     .bytes()
+}
+
+/// The 128 terms of a tower.
+pub fn tower_terms() -> Vec<[u8; 3]> {
+    let above = |i: u8| if i % 2 == 0 { [2, i, 0] } else { [1, i, i] };
+    std::iter::once([0, 0, 0]).chain((0..127).map(above)).collect()
 }
 
 /// 64 steps, each of which uses all of 128 shared terms.

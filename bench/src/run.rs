@@ -1,9 +1,10 @@
 //! Running a judged list on a trace.
 
+use generate::raw::{RawTable, RawTrace};
 use mirvashol::raw;
 use second::service;
 
-use crate::inputs::{full_trace, tower, TYPICAL_LIST, TYPICAL_TABLE, TYPICAL_TRACE};
+use crate::inputs::{full_trace, tower, tower_terms, TYPICAL_LIST, TYPICAL_TABLE, TYPICAL_TRACE};
 use crate::judge::longest_list;
 use crate::measure::Row;
 
@@ -33,5 +34,40 @@ pub fn rows() -> Vec<Row> {
             TYPICAL_TRACE.to_vec(),
         ),
         row("worst: 1,024 values and 511 builds", worst, list, full_trace(96)),
+        row(
+            "worst: 62 fresh names beside 1,088 held values, 447 builds",
+            fresh_names(),
+            longest_list(&fresh_names()),
+            held_values(),
+        ),
     ]
+}
+
+/// The 128 shared terms are compared and split, so that values made of them are held; then 62 fresh names are made. The 31
+/// variables that nothing binds hold what they start with.
+fn fresh_names() -> Vec<u8> {
+    let mut steps = vec![[3, 127, 127, 0, 0], [4, 126, 0, 63, 64]];
+    steps.extend((1..=62).map(|x| [2, 0, 0, x, 0]));
+    RawTable {
+        symbols: [vec![0; 63], vec![1; 33]].concat(),
+        terms: tower_terms(),
+        steps,
+    }
+    .bytes()
+}
+
+/// A key, 62 atoms that are supplied, and 961 pairs, each of the one before twice; the variables hold the last.
+fn held_values() -> Vec<u8> {
+    let mut values = vec![[0, 0, 2, 0, 0]];
+    values.extend((1..=62).map(|number| [0, 0, 0, 0, number]));
+    for i in 63..1024_u16 {
+        let [high, low] = if i == 63 { [0, 0] } else { (i - 1).to_be_bytes() };
+        values.push([1, high, low, high, low]);
+    }
+    RawTrace {
+        values,
+        starting: [vec![0], vec![1023; 31]].concat(),
+        supply: (1..=62).collect(),
+    }
+    .bytes()
 }

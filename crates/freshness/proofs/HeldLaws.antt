@@ -1,28 +1,31 @@
 -- The registers' values marked, and what a mark on the supplied value then says. Assumes nothing.
 use mathlib.Core.Path.{_≡_, refl, sym, ap, _∙_}
-use mathlib.Core.Bool.{Bool, true, false, cond, not, _&&_}
+use mathlib.Core.Bool.{Bool, true, false, cond, not}
+use mathlib.Core.Logic.{_⊎_, inl, inr}
 use mathlib.Core.List.{List, [], _∷_}
 use Prim.Native.Nat.{ℕ, zero, suc, _+_, _*_, _/_, _%_, _<_, _≤_}
 use native.Mathlib.Decide.{decLt}
 use native.Mathlib.Numerals.{add-one}
 use native.Mathlib.Omega.{arith}
 use lib.Dec.{ltb, eqb}
-use lib.ListN.{length, drop, getD, replicate, length-replicate, getD-replicate}
+use lib.ListN.{length, drop, getD, replicate, length-append, length-replicate, getD-replicate}
 use lib.Seq.{drop-cons, drop-length}
-use borrow.Author.Tests.{lt-ltb, ltb-true, ltb-false}
+use borrow.Author.Tests.{ltb-false}
 use Rattle.base.specs.Pick.{both, either}
 use Rattle.base.specs.Search.{some}
 use Rattle.marks.specs.Put.{Put}
-use Rattle.calculus.specs.Terms.{Atom}
-use Rattle.calculus.specs.Tables.{Entry}
 use Rattle.calculus.specs.Version1.{signature1}
 use Rattle.running.specs.Values.{occursAt, isFresh, index}
 use Rattle.running.specs.Lists.{Register, termRegister, held}
 use Rattle.running.proofs.Occurrence.{occurs-past, occurs-here, occurs-not-under}
-use Rattle.value_table.proofs.Keeping.{kept-table}
+use Rattle.value_table.specs.Values.{valueBytes}
+use Rattle.value_table.specs.Kept.{Kept}
+use Rattle.value_table.proofs.Keeping.{values-length, kept-table}
+use Rattle.buffers.specs.Over.{over}
+use Rattle.entries.specs.Tiling.{joined}
 use Rattle.run_parts.specs.Registers.{registerNumber, Given}
 use Rattle.run_parts.proofs.RegisterLaws.{given-few, number-at, half-number}
-use Rattle.freshness.specs.Marks.{placed, marked, inMarked, DownMarked, RegisterMarked, HeldMarked}
+use Rattle.freshness.specs.Marks.{marked, inMarked, DownMarked, RegisterMarked, HeldMarked}
 use Rattle.freshness.specs.Fresh.{FreshBy}
 use Rattle.freshness.proofs.MarkLaws.{Entries, either-none, in-marked-more, in-marked-next}
 
@@ -37,9 +40,6 @@ within es v n w e = go (ltb w n) refl
 -- ── One register ──
 
 module _ (g : List ℕ) (i n : ℕ) (z : List ℕ) where
-  pub register-past : 608 ≤ i → RegisterMarked g i n z z
-  register-past h = record { size = refl; holds = λ r es v e l k s m q. absurd (omega arith) }
-
   -- the number is odd where the register means a symbol
   odd-symbol : (r : Register ℕ) → registerNumber r % 2 ≡ 1 → r .forSymbol ≡ true
   unfolding registerNumber
@@ -57,10 +57,10 @@ module _ (g : List ℕ) (i n : ℕ) (z : List ℕ) where
       go true h = absurd (h (omega arith))
       go false h = refl
 
-  pub register-symbol : (d : ℕ) → d ≡ getD g i 0 → d % 2 ≡ 1 → (o : List ℕ) → Put z o (λ k. both (placed n (d / 2 % 65536)) (eqb (d / 2 % 65536) k)) 1 → RegisterMarked g i n z o
+  pub register-symbol : (d : ℕ) → d ≡ getD g i 0 → d % 2 ≡ 1 → (o : List ℕ) → Put z o (λ k. both (ltb (d / 2 % 65536) n) (eqb (d / 2 % 65536) k)) 1 → RegisterMarked g i n z o
   register-symbol d e h o p = record {
     size = p .size;
-    holds = λ r es v q l k s m t.
+    holds = λ r es v q l s m t.
         let f : d ≡ registerNumber r = e ∙ q in
         let a : r .forSymbol ≡ true = odd-symbol r (rw f at h) in
         let b : d / 2 % 65536 ≡ r .value = ap (λ (c : ℕ). c / 2 % 65536) f ∙ half-number r l in
@@ -70,7 +70,7 @@ module _ (g : List ℕ) (i n : ℕ) (z : List ℕ) where
   pub register-term : (d : ℕ) → d ≡ getD g i 0 → ¬ (d % 2 ≡ 1) → RegisterMarked g i n z z
   register-term d e h = record {
     size = refl;
-    holds = λ r es v q l k s m t.
+    holds = λ r es v q l s m t.
         let a : r .forSymbol ≡ false = even-term r (rw (e ∙ q) at h) in
         rw (a, either-none (inMarked es v z n));
   }
@@ -109,7 +109,7 @@ held-more g m n i z a o h p q = record {
       let c : i < length rs = omega (arith, k .count) in
       let d : drop i rs ≡ getD rs i (termRegister 0) ∷ drop (suc i) rs = drop-cons rs i (termRegister 0) c in
       let f = number-at k i h in
-      let b = q .holds (getD rs i (termRegister 0)) es v f (rw f at (k .small i)) (omega (arith, given-few k)) e l (p .size ∙ s) in
+      let b = q .holds (getD rs i (termRegister 0)) es v f (rw f at (k .small i)) e l (p .size ∙ s) in
       rw (add-one, b) (held-first es v (getD rs i (termRegister 0)) (drop (suc i) rs) (inMarked es v a n)
       ∙ ap (λ (t : List (Register ℕ)). either (inMarked es v a n) (not (isFresh signature1 (index signature1 es) (held t) v))) (sym d) ∙ p .holds rs es v k e l s);
 }
@@ -163,12 +163,27 @@ unfolding isFresh
 past-fresh es v h [] = refl
 past-fresh es v h (w ∷ hs) = rw (none-past es v w h) (past-fresh es v h hs)
 
+-- the buffer has the bytes of what is kept
+kept-long : {z w : List ℕ} {es : Entries} {n : ℕ} → Kept z es w n → 5 * length es ≤ length w
+unfolding over
+kept-long {z} {w} {es} k = rw (k .bytes, length-append (joined valueBytes es) (drop (length (joined valueBytes es)) z), values-length es) (omega arith)
+
 module _ (w : List ℕ) (n : ℕ) (g : List ℕ) (m v : ℕ) where
   pub fresh-past : n ≤ v → FreshBy w n g m v true
   fresh-past h = record { answer = λ z es rs k r l. sym (past-fresh es v (omega (arith, k .count)) (held rs)) }
 
-  pub fresh-by : v < n → (y a o : List ℕ) (b : Bool) → y ≡ noMarks → HeldMarked g m n y a → DownMarked w n v a o → b ≡ both (ltb v 1536) (marked o v) → FreshBy w n g m v (not b)
-  fresh-by h y a o b u p′ q e = record {
+  -- no run has so many values or registers, or so short a table
+  pub fresh-not : (1536 < n) ⊎ (608 < m) ⊎ (length w < 5 * n) → (r : Bool) → FreshBy w n g m v r
+  fresh-not h r = record { answer = λ z es rs k j l. absurd (go z es rs k j l h) }
+    where
+      go : (z : List ℕ) (es : Entries) (rs : List (Register ℕ)) → Kept z es w n → Given rs g m → length es ≤ 1536 → (1536 < n) ⊎ (608 < m) ⊎ (length w < 5 * n) → ⊥
+      go z es rs k j l (inl h) = omega (arith, k .count)
+      go z es rs k j l (inr (inl h)) = omega (arith, given-few j)
+      go z es rs k j l (inr (inr h)) = omega (arith, k .count, kept-long k)
+
+  pub fresh-by : v < n → (y a o : List ℕ) → y ≡ noMarks → HeldMarked g m n y a → DownMarked w n v a o → FreshBy w n g m v (eqb (getD o v 0) 0)
+  unfolding marked
+  fresh-by h y a o u p′ q = record {
     answer = λ z es rs k r l.
         let p : HeldMarked g m n noMarks a = rw u at p′ in
         let c : length es ≡ n = sym (k .count) in
@@ -178,8 +193,7 @@ module _ (w : List ℕ) (n : ℕ) (g : List ℕ) (m v : ℕ) where
         p .holds rs es v r c j no-marks-length ∙ ap (λ (y : Bool). either y (not (isFresh signature1 (index signature1 es) (held rs) v))) (in-no-marks es v n j) in
         let d : inMarked es v o (suc v) ≡ inMarked es v a n = rw t at (q .down j (p .size ∙ no-marks-length) h) in
         let f : inMarked es v o (suc v) ≡ marked o v = rw (in-marked-next es v o v, occurs-here signature1 v es (omega arith), none-under es v o v (omega arith)) (by (marked o v)) in
-        let i : b ≡ marked o v = rw (lt-ltb v 1536 (omega arith)) at e in
-        ap not (i ∙ sym f ∙ d ∙ x) ∙ twice (isFresh signature1 (index signature1 es) (held rs) v);
+        sym (twice (eqb (getD o v 0) 0)) ∙ ap not (sym f ∙ d ∙ x) ∙ twice (isFresh signature1 (index signature1 es) (held rs) v);
   }
     where
       by : (y : Bool) → either (both y true) false ≡ y

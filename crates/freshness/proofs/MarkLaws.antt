@@ -2,7 +2,7 @@
 use mathlib.Core.Path.{_≡_, refl, sym, ap, _∙_}
 use mathlib.Core.Bool.{Bool, true, false, not, _&&_, _||_}
 use mathlib.Core.List.{List}
-use Prim.Native.Nat.{ℕ, zero, suc, _+_, _<_, _≤_}
+use Prim.Native.Nat.{ℕ, zero, suc, _+_, _*_, _<_, _≤_}
 use native.Mathlib.Omega.{arith}
 use lib.Dec.{ltb, eqb}
 use lib.ListN.{length, getD, set}
@@ -11,7 +11,9 @@ use Rattle.base.specs.Pick.{pick, both, either}
 use Rattle.base.specs.Search.{some}
 use Rattle.marks.specs.Put.{Put}
 use Rattle.marks.proofs.PutLaws.{put-one, put-none}
-use Rattle.entries.specs.Fields.{code, field}
+use Rattle.base.specs.Bytes.{byte, word}
+use Rattle.codes.specs.Rows.{fieldBytes, width}
+use Rattle.entries.specs.Fields.{number, placeOf, code, field}
 use Rattle.calculus.specs.Signature.{Two, pairing, seal}
 use Rattle.calculus.specs.Terms.{Atom, atom, build2}
 use Rattle.calculus.specs.Tables.{Entry, leafEntry, kindEntry, entryAt}
@@ -22,7 +24,7 @@ use Rattle.decoded.specs.Values.{valueOf}
 use Rattle.decoded.proofs.ValueLaws.{noAtom}
 use Rattle.value_table.specs.Values.{tableAt}
 use Rattle.value_table.proofs.Reading.{table-length, entry-in}
-use Rattle.freshness.specs.Marks.{placed, marked, inMarked, PartsMarked, DownMarked}
+use Rattle.freshness.specs.Marks.{marked, inMarked, PartsMarked, DownMarked}
 
 abbrev pub Entries : Type 0
 Entries = List (Entry signature1 Atom)
@@ -56,50 +58,40 @@ put-elsewhere false false f q x = refl
 
 -- ── One mark ──
 
-pub mark-there : (z : List ℕ) (n w : ℕ) → w < n → w < 1536 → Put z (set z w 1) (λ i. both (placed n w) (eqb w i)) 1
-unfolding placed
-mark-there z n w h k = put-one z (both (ltb w n) (ltb w 1536)) w 1 (rw (lt-ltb w n h, lt-ltb w 1536 k))
+pub mark-there : (z : List ℕ) (n w : ℕ) → w < n → Put z (set z w 1) (λ i. both (ltb w n) (eqb w i)) 1
+mark-there z n w h = put-one z (ltb w n) w 1 (lt-ltb w n h)
 
-pub mark-past : (z : List ℕ) (n w : ℕ) → 1536 ≤ w → Put z z (λ i. both (placed n w) (eqb w i)) 1
-unfolding placed
-mark-past z n w k = put-none z (both (ltb w n) (ltb w 1536)) w 1 (rw (le-ltb w 1536 k) (never (ltb w n)))
-  where
-    never : (b : Bool) → both b false ≡ false
-    never true = refl
-    never false = refl
+pub mark-above : (z : List ℕ) (n w : ℕ) → n ≤ w → Put z z (λ i. both (ltb w n) (eqb w i)) 1
+mark-above z n w h = put-none z (ltb w n) w 1 (le-ltb w n h)
 
-pub mark-above : (z : List ℕ) (n w : ℕ) → n ≤ w → Put z z (λ i. both (placed n w) (eqb w i)) 1
-unfolding placed
-mark-above z n w h = put-none z (both (ltb w n) (ltb w 1536)) w 1 (rw (le-ltb w n h))
-
-module _ (es : Entries) (v n w : ℕ) (z o : List ℕ) (p : Put z o (λ i. both (placed n w) (eqb w i)) 1) (s : length z ≡ 1536) (l : n ≤ 1536) where
+module _ (es : Entries) (v n w : ℕ) (z o : List ℕ) (p : Put z o (λ i. both (ltb w n) (eqb w i)) 1) (s : length z ≡ 1536) (l : n ≤ 1536) where
   -- does v occur in value i?
   abbrev occ : ℕ → Bool
   occ i = occursAt signature1 es v i
 
-  marked-put : (i : ℕ) → i < length z → marked o i ≡ either (both (placed n w) (eqb w i)) (marked z i)
+  marked-put : (i : ℕ) → i < length z → marked o i ≡ either (both (ltb w n) (eqb w i)) (marked z i)
   unfolding marked
-  marked-put i h = go (both (placed n w) (eqb w i)) (p .at i h)
+  marked-put i h = go (both (ltb w n) (eqb w i)) (p .at i h)
     where
       go : (t : Bool) → getD o i 0 ≡ pick t 1 (getD z i 0) → not (eqb (getD o i 0) 0) ≡ either t (not (eqb (getD z i 0) 0))
       go true e = rw e
       go false e = rw e
 
-  grow : (k : ℕ) → k ≤ n → some (λ i. both (marked o i) (occ i)) k ≡ either (some (λ i. both (marked z i) (occ i)) k) (both (both (ltb w k) (placed n w)) (occ w))
+  grow : (k : ℕ) → k ≤ n → some (λ i. both (marked o i) (occ i)) k ≡ either (some (λ i. both (marked z i) (occ i)) k) (both (both (ltb w k) (ltb w n)) (occ w))
   unfolding some
   grow zero h = rw (le-ltb w 0 (omega arith))
   grow (suc k) h = rw (marked-put k (omega arith), grow k (omega arith)) (go (eqb w k) refl)
     where
       go : (b : Bool) → eqb w k ≡ b
-          → either (both (either (both (placed n w) b) (marked z k)) (occ k)) (either (some (λ i. both (marked z i) (occ i)) k) (both (both (ltb w k) (placed n w)) (occ w)))
-          ≡ either (either (both (marked z k) (occ k)) (some (λ i. both (marked z i) (occ i)) k)) (both (both (ltb w (suc k)) (placed n w)) (occ w))
+          → either (both (either (both (ltb w n) b) (marked z k)) (occ k)) (either (some (λ i. both (marked z i) (occ i)) k) (both (both (ltb w k) (ltb w n)) (occ w)))
+          ≡ either (either (both (marked z k) (occ k)) (some (λ i. both (marked z i) (occ i)) k)) (both (both (ltb w (suc k)) (ltb w n)) (occ w))
       go true e =
           let q : w ≡ k = eqb-true w k e in
           let a : ltb w k ≡ false = le-ltb w k (omega arith) in
           let b : ltb w (suc k) ≡ true = lt-ltb w (suc k) (omega arith) in
           let c : occ w ≡ occ k = ap occ q in
-          rw (a, b, c) (put-here (placed n w) (marked z k) (occ k) (some (λ i. both (marked z i) (occ i)) k))
-      go false e = rw (same (ltb w k) refl) (put-elsewhere (placed n w) (marked z k) (occ k) (some (λ i. both (marked z i) (occ i)) k) (both (both (ltb w k) (placed n w)) (occ w)))
+          rw (a, b, c) (put-here (ltb w n) (marked z k) (occ k) (some (λ i. both (marked z i) (occ i)) k))
+      go false e = rw (same (ltb w k) refl) (put-elsewhere (ltb w n) (marked z k) (occ k) (some (λ i. both (marked z i) (occ i)) k) (both (both (ltb w k) (ltb w n)) (occ w)))
         where
           same : (b : Bool) → ltb w k ≡ b → ltb w (suc k) ≡ b
           same true a = lt-ltb w (suc k) (omega (arith, ltb-true w k a))
@@ -107,12 +99,21 @@ module _ (es : Entries) (v n w : ℕ) (z o : List ℕ) (p : Put z o (λ i. both 
 
   -- one value more is marked: what occurs in it counts too
   pub in-marked-more : inMarked es v o n ≡ either (inMarked es v z n) (both (ltb w n) (occ w))
-  unfolding inMarked placed
-  in-marked-more = grow n (omega arith) ∙ ap (λ (b : Bool). either (some (λ i. both (marked z i) (occ i)) n) (both b (occ w))) (go (ltb w n) refl)
+  unfolding inMarked
+  in-marked-more = grow n (omega arith) ∙ ap (λ (b : Bool). either (some (λ i. both (marked z i) (occ i)) n) (both b (occ w))) (twice (ltb w n))
     where
-      go : (b : Bool) → ltb w n ≡ b → both (ltb w n) (both (ltb w n) (ltb w 1536)) ≡ ltb w n
-      go true e = rw (e, lt-ltb w 1536 (omega (arith, ltb-true w n e)))
-      go false e = rw e
+      twice : (b : Bool) → both b b ≡ b
+      twice true = refl
+      twice false = refl
+
+-- a mark is there or not
+pub is-marked : (z : List ℕ) (i : ℕ) → ¬ (getD z i 0 ≡ 0) → marked z i ≡ true
+unfolding marked
+is-marked z i h = rw (ne-eqb (getD z i 0) 0 h)
+
+pub is-unmarked : (z : List ℕ) (i : ℕ) → getD z i 0 ≡ 0 → marked z i ≡ false
+unfolding marked
+is-unmarked z i h = rw h
 
 -- one value more is looked at
 pub in-marked-next : (es : Entries) (v : ℕ) (z : List ℕ) (n : ℕ) → inMarked es v z (suc n) ≡ either (both (marked z n) (occursAt signature1 es v n)) (inMarked es v z n)
@@ -167,20 +168,29 @@ module _ (w : List ℕ) (u n v : ℕ) (h : u < n) (k : v < u) where
   by-parts (suc (suc zero)) a b l m e = in-two-parts (seal encryption) a b e
   by-parts (suc (suc (suc t))) a b l m e = absurd (omega arith)
 
-module _ (w z : List ℕ) (u : ℕ) where
-  pub parts-unmarked : (b : Bool) → b ≡ both (ltb u 1536) (marked z u) → b ≡ false → PartsMarked w u z z
-  parts-unmarked b e f = record {
-    size = refl;
-    parts = λ n v h l s k.
-        let q : marked z u ≡ false = ap (λ (t : Bool). both t (marked z u)) (sym (lt-ltb u 1536 (omega arith))) ∙ sym e ∙ f in
-        rw (in-marked-next (tableAt w n) v z u, q);
-  }
+-- where value u stands
+module _ (w : List ℕ) (u : ℕ) where
+  tag-there : code w 3 0 u ≡ byte w (5 * u)
+  unfolding code placeOf width byte
+  tag-there = let e : 0 + u * 5 ≡ 5 * u = omega arith in rw e
 
-  pub parts-none : (t : ℕ) → t ≡ code w 3 0 u → ¬ (0 < t × t < 3) → PartsMarked w u z z
+  first-there : field w 3 0 u 0 ≡ word w (5 * u + 1)
+  unfolding field number placeOf width fieldBytes byte
+  first-there = let e : 0 + u * 5 + 1 + 0 * 2 ≡ 5 * u + 1 = omega arith in rw e
+
+  second-there : field w 3 0 u 1 ≡ word w (5 * u + 3)
+  unfolding field number placeOf width fieldBytes byte
+  second-there = let e : 0 + u * 5 + 1 + 1 * 2 ≡ 5 * u + 3 = omega arith in rw e
+
+module _ (w z : List ℕ) (u : ℕ) where
+  pub parts-unmarked : marked z u ≡ false → PartsMarked w u z z
+  parts-unmarked q = record { size = refl; parts = λ n v h l s k. rw (in-marked-next (tableAt w n) v z u, q) }
+
+  pub parts-none : (t : ℕ) → t ≡ byte w (5 * u) → ¬ (0 < t × t < 3) → PartsMarked w u z z
   parts-none t e m = record {
     size = refl;
     parts = λ n v h l s k.
-        let q : occursAt signature1 (tableAt w n) v u ≡ false = by-atom w u n v h k (code w 3 0 u) _ _ (rw e at m) (entry-in w n u h) in
+        let q : occursAt signature1 (tableAt w n) v u ≡ false = by-atom w u n v h k (code w 3 0 u) _ _ (rw (e ∙ sym (tag-there w u)) at m) (entry-in w n u h) in
         rw (in-marked-next (tableAt w n) v z u, q) (quiet (marked z u) (inMarked (tableAt w n) v z u));
   }
     where
@@ -188,16 +198,15 @@ module _ (w z : List ℕ) (u : ℕ) where
       quiet true b = refl
       quiet false b = refl
 
-  pub parts-both : (f : Bool) → f ≡ both (ltb u 1536) (marked z u) → f ≡ true → (t : ℕ) → t ≡ code w 3 0 u → 0 < t → t < 3
-      → (a : ℕ) → a ≡ field w 3 0 u 0 → (m : List ℕ) → Put z m (λ i. both (placed u a) (eqb a i)) 1
-      → (b : ℕ) → b ≡ field w 3 0 u 1 → (o : List ℕ) → Put m o (λ i. both (placed u b) (eqb b i)) 1 → PartsMarked w u z o
-  parts-both f fe ft t te tl tm a ae m p b be o q = record {
+  pub parts-both : marked z u ≡ true → (t : ℕ) → t ≡ byte w (5 * u) → 0 < t → t < 3
+      → (a : ℕ) → a ≡ word w (5 * u + 1) → (m : List ℕ) → Put z m (λ i. both (ltb a u) (eqb a i)) 1
+      → (b : ℕ) → b ≡ word w (5 * u + 3) → (o : List ℕ) → Put m o (λ i. both (ltb b u) (eqb b i)) 1 → PartsMarked w u z o
+  parts-both x t te tl tm a ae m p b be o q = record {
     size = q .size ∙ p .size;
     parts = λ n v h l s k.
         let es : Entries = tableAt w n in
-        let x : marked z u ≡ true = ap (λ (y : Bool). both y (marked z u)) (sym (lt-ltb u 1536 (omega arith))) ∙ sym fe ∙ ft in
         let g : occursAt signature1 es v u ≡ either (both (ltb a u) (occursAt signature1 es v a)) (both (ltb b u) (occursAt signature1 es v b)) =
-        by-parts w u n v h k t a b tl tm (rw (te, ae, be) (entry-in w n u h)) in
+        by-parts w u n v h k t a b tl tm (rw (te ∙ sym (tag-there w u), ae ∙ sym (first-there w u), be ∙ sym (second-there w u)) (entry-in w n u h)) in
         let c = in-marked-more es v u a z m p s (omega arith) in
         let d = in-marked-more es v u b m o q (p .size ∙ s) (omega arith) in
         rw (in-marked-next es v z u, x, g, d, c) (turn (inMarked es v z u) (both (ltb a u) (occursAt signature1 es v a)) (both (ltb b u) (occursAt signature1 es v b)));

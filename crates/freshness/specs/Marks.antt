@@ -3,7 +3,7 @@ use mathlib.Core.Path.{_≡_}
 use mathlib.Core.Bool.{Bool, not}
 use mathlib.Core.List.{List}
 use Prim.Native.Nat.{ℕ, suc, _<_, _≤_}
-use lib.Dec.{ltb, eqb}
+use lib.Dec.{eqb}
 use lib.ListN.{length, getD}
 use Rattle.base.specs.Pick.{both, either}
 use Rattle.base.specs.Search.{some}
@@ -14,10 +14,6 @@ use Rattle.running.specs.Values.{occursAt, isFresh, index}
 use Rattle.running.specs.Lists.{Register, held}
 use Rattle.value_table.specs.Values.{tableAt}
 use Rattle.run_parts.specs.Registers.{registerNumber, Given}
-
--- w lies below n, and has a place
-unfoldable pub placed : ℕ → ℕ → Bool
-placed n w = both (ltb w n) (ltb w 1536)
 
 -- place i is marked
 unfoldable pub marked : List ℕ → ℕ → Bool
@@ -40,7 +36,7 @@ pub record DownMarked (w : List ℕ) (n v : ℕ) (z o : List ℕ) : Type 0 where
 -- the value in register i was marked, if that means a symbol
 pub record RegisterMarked (g : List ℕ) (i n : ℕ) (z o : List ℕ) : Type 0 where
   pub size : length o ≡ length z
-  pub holds : (r : Register ℕ) (es : List (Entry signature1 Atom)) (v : ℕ) → getD g i 0 ≡ registerNumber r → registerNumber r < 131072 → i < 608
+  pub holds : (r : Register ℕ) (es : List (Entry signature1 Atom)) (v : ℕ) → getD g i 0 ≡ registerNumber r → registerNumber r < 131072
       → length es ≡ n → n ≤ 1536 → length z ≡ 1536
       → inMarked es v o n ≡ either (inMarked es v z n) (both (r .forSymbol) (occursAt signature1 es v (r .value)))
 

@@ -1,6 +1,6 @@
 -- What occurs in a value: the decider over trees decides it, and the marks of a value table are it, one mark a value. Assumes nothing.
 use mathlib.Core.Path.{_≡_, refl, sym, ap, _∙_}
-use mathlib.Core.Bool.{Bool, true, false, _&&_, _||_, decide, false≢true}
+use mathlib.Core.Bool.{Bool, true, false, _&&_, _||_, decide}
 use mathlib.Core.List.{List, [], _∷_, _++_, map, append-assoc, append-nil}
 use Prim.Native.Nat.{ℕ, zero, suc, _+_, _<_, _≤_}
 use native.Mathlib.Nat.{zero-add, add-zero}

@@ -9,6 +9,7 @@ pub mod faithful;
 pub mod kind;
 pub mod list_faults;
 pub mod lists;
+pub mod plan;
 pub mod raw;
 pub mod rng;
 pub mod shelves;

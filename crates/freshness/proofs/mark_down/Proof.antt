@@ -25,7 +25,11 @@ sub-u : tie.Need-sub-u Inv-loop μ-loop
 sub-u c = search needs
 
 mark-parts-requires : tie.Need-mark-parts-requires Inv-loop μ-loop
-mark-parts-requires c κs = search needs
+mark-parts-requires c κs =
+    let p = c .before .before .before .before .pre in
+    let i = c .before .before .loop .inv .0 in
+    let t = c .before .loop-test .taken in
+    (omega (arith, p .0, i, t), omega (arith, p .1, i, t))
 
 loop-less : tie.Need-loop-less Inv-loop μ-loop
 loop-less c = search needs

@@ -16,7 +16,7 @@ loop-holds : tie.Need-loop-holds Inv-loop μ-loop
 loop-holds c = (search needs, held-start _ _ _ _)
 
 mark-register-requires : tie.Need-mark-register-requires Inv-loop μ-loop
-mark-register-requires c κs = search needs
+mark-register-requires c κs = let p = c .before .before .before .pre in (p .0, omega (arith, p .1, c .before .loop-test .taken))
 
 add-i : tie.Need-add-i Inv-loop μ-loop
 add-i c = search needs
@@ -33,4 +33,12 @@ returns c = held-end _ _ _ _ _ _ (c .before .loop .inv .0) (c .loop-test .left) 
 pub mark-held-spec : {M : Type 1} → statement M
 mark-held-spec =
     tie.close
-    (tie.spec Inv-loop μ-loop loop-holds mark-register-requires add-i loop-less loop-again returns)
+    (tie.spec
+    Inv-loop
+    μ-loop
+    loop-holds
+    mark-register-requires
+    add-i
+    loop-less
+    loop-again
+    returns)

@@ -1,6 +1,6 @@
 -- `freshness::mark_register` meets its contract. Assumes nothing.
-use Rattle.freshness.proofs.HeldLaws.{register-past, register-symbol, register-term}
 use mathlib.Core.Path.{refl}
+use Rattle.freshness.proofs.HeldLaws.{register-symbol, register-term}
 use borrow.Author.Needs.{needs}
 use Rattle.freshness.proofs.mark_register.Statement.{statement}
 use Rattle.freshness.proofs.mark_register.Tie as tie
@@ -18,13 +18,10 @@ mark-requires : tie.Need-mark-requires
 mark-requires c κs = search needs
 
 returns : tie.Need-returns
-returns c = register-symbol _ _ _ _ _ refl (c .before .before .if2 .taken) _ (c .mark .ensures)
+returns c = register-symbol _ _ _ _ _ refl (c .before .before .if1 .taken) _ (c .mark .ensures)
 
 returns-2 : tie.Need-returns-2
-returns-2 c = register-term _ _ _ _ _ refl (c .if2 .left)
-
-returns-3 : tie.Need-returns-3
-returns-3 c = register-past _ _ _ _ (c .if1 .left)
+returns-2 c = register-term _ _ _ _ _ refl (c .if1 .left)
 
 pub mark-register-spec : {M : Type 1} → statement M
 mark-register-spec =
@@ -35,5 +32,4 @@ mark-register-spec =
     cast-mark
     mark-requires
     returns
-    returns-2
-    returns-3)
+    returns-2)
