@@ -2,7 +2,7 @@
 -- and that the list's elements are bytes.
 use mathlib.Core.Path.{_≡_, refl, sym, ap, _∙_}
 use mathlib.Core.Option as option
-use mathlib.Core.List.{List, [], _∷_, _++_, map}
+use mathlib.Core.List.{List, [], _∷_, map}
 use Prim.Native.Nat.{ℕ, zero, suc, _+_, _*_, _≤_, _<_}
 use native.Mathlib.Nat.{lt-of-not-le}
 use native.Mathlib.Omega.{arith}
@@ -32,19 +32,15 @@ use Rattle.calculus.specs.Figure2.{Env}
 use Rattle.calculus.specs.Version1.{signature1}
 use Rattle.calculus.proofs.Lists.{all-append}
 use Rattle.rendering.specs.Rendering.{Splitting, halves, Due, duesOf, dues, Dues, Beginning, Follows, no-more, permitted, next-due}
-use Rattle.rendering.specs.Judge.{accepted, notDue, unfinished, is-not-due, is-unfinished, VerdictIs}
-use Rattle.rendering.specs.Lists.{StatementList, Differ, differ-at, Answer, typesDiffer, judged, ListAnswerIs, types-differ, types-equal}
+use Rattle.rendering.specs.Judge.{accepted, notDue, unfinished, is-not-due, is-unfinished}
+use Rattle.rendering.specs.Lists.{StatementList, Differ, differ-at, Answer, ListAnswerIs, types-differ, types-equal}
 use Rattle.decoded.specs.Table.{stepAt, tableOf, freeCount}
 use Rattle.decoded.proofs.Passes.{table-passes}
 use Rattle.decoded_list.specs.Bytes.{listBytes, typesTo}
 use Rattle.decoded_list.proofs.FileLayout.{file-symbols, file-count}
 use Rattle.type_service.specs.Services.{IsWidest}
 use Rattle.type_service.proofs.ServiceLaws.{not-both}
-use Rattle.judge_service.specs.Judged.{verdictCheck, answerCheck, Judged, table-refused, list-refused, list-judged}
-
--- the number is above 0, and the place fits 16 bits
-abbrev pub Fits : Refusal → Type 0
-Fits x = (0 < x .number) × (x .place < 65536)
+use Rattle.judge_service.specs.Judged.{verdictCheck, answerCheck, Judged, Fits, table-refused, list-refused, list-judged}
 
 -- ── 1 to 5 ──
 

@@ -2,7 +2,7 @@
 -- against the table with its widest types; and what the file of a faithful list is. Assumes nothing: these are definitions.
 use mathlib.Core.Path.{_≡_}
 use mathlib.Core.List.{List}
-use Prim.Native.Nat.{ℕ}
+use Prim.Native.Nat.{ℕ, _<_}
 use Rattle.answers.specs.Ladder.{refusal, least}
 use Rattle.answers.specs.declared.Refusal.{Refusal}
 use Rattle.answers.specs.declared.Check.{Check}
@@ -47,6 +47,10 @@ pub data Judged (t l : List ℕ) : Check → Type 0 where
 -- so it is of a table that is typed already: the slots w hold its widest types
 pub record TypedJudged (t w l : List ℕ) (r : Check) : Type 0 where
   pub judged : (Γ : Env signature1) → Holds w Γ → IsWidest t Γ → Judged t l r
+
+-- a refusal that four bytes can hold, and that is not four zeros: its number is above 0, and its place fits 16 bits
+abbrev pub Fits : Refusal → Type 0
+Fits x = (0 < x .number) × (x .place < 65536)
 
 -- a list that is the file of a faithful rendering of the table with its widest types, and has no fault 1 to 5
 pub record FaithfulFile (t l : List ℕ) : Type 0 where

@@ -1,15 +1,12 @@
 -- What is read off the verdicts' bytes is what judging each list by itself gives. Assumes that the lists' elements are bytes.
 use mathlib.Core.Path.{_≡_, refl, ap, _∙_}
-use mathlib.Core.List.{List, [], _∷_, _++_}
+use mathlib.Core.List.{List, [], _∷_}
 use Prim.Native.Nat.{ℕ, zero, suc, _+_, _*_, _/_, _%_, _<_}
 use native.Mathlib.Omega.{arith}
-use lib.Dec.{eqb}
 use lib.ListN.{length, take, drop, getD, length-drop}
 use lib.Seq.{take-append-le, drop-append-le, getD-drop}
 use borrow.Author.Tests.{ne-eqb}
 use Rattle.base.specs.Bytes.{byte, word}
-use Rattle.base.specs.Pick.{pick}
-use Rattle.answers.specs.Ladder.{refusal}
 use Rattle.answers.specs.declared.Refusal.{Refusal}
 use Rattle.answers.specs.declared.Check.{Check}
 use Rattle.answers.specs.declared.Check.the-variants.{Pass, Refuse}
@@ -18,9 +15,9 @@ use Rattle.buffers.specs.Over.{over}
 use Rattle.calculus.specs.Figure2.{Env}
 use Rattle.calculus.specs.Version1.{signature1}
 use Rattle.type_service.specs.Services.{IsWidest}
-use Rattle.judge_service.specs.Judged.{Judged}
-use Rattle.judge_service.proofs.Places.{Fits, refusal-fits}
-use Rattle.shelf_service.specs.Shelf.{total, listAt, verdictBytes, verdictRead, IsVerdict, Verdicts, ShelfAnswered, table-refused, shelf-refused, shelf-judged}
+use Rattle.judge_service.specs.Judged.{Judged, Fits}
+use Rattle.judge_service.proofs.Places.{refusal-fits}
+use Rattle.shelf_service.specs.Shelf.{total, listAt, verdictBytes, verdictRead, IsVerdict, ShelfAnswered, table-refused, shelf-refused, shelf-judged}
 
 -- ── One verdict ──
 
