@@ -1,0 +1,2 @@
+-- What is proved of the tables of texts as files.
+pub mod Statements
