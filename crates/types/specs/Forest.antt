@@ -1,7 +1,7 @@
 -- Basic types as a forest: a table says which basic type lies directly above each one. Assumes nothing; `Falls` is the one law of a table.
 use Rattle.std.specs.Prelude.{◌≡◌, Bool, true, false, cond, ◌||◌, ℕ, zero, suc, ◌<◌}
 use Rattle.std.proofs.Math.Bool.{decide}
-use Rattle.std.proofs.Math.Option.{Option, none, some, Option·elim}
+use Rattle.std.proofs.Math.Option.{Option, none, some, Option-elim}
 
 -- the basic types, the one directly above each, and how many lie above it
 pub record Forest : Type 1 where
@@ -25,7 +25,7 @@ module _ (𝓕 : Forest) where
   -- is b met within n steps up from a?
   unfoldable pub within : ℕ → Base → Base → Bool
   within zero a b = decide (same a b)
-  within (suc n) a b = decide (same a b) || Option·elim (parent a) false (λ t. within n t b)
+  within (suc n) a b = decide (same a b) || Option-elim (parent a) false (λ t. within n t b)
 
   -- the decision of `Under`
   unfoldable pub under : Base → Base → Bool
