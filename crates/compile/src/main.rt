@@ -1,4 +1,6 @@
 // The compile program: a role table on standard input, its list or one refusal line on standard output.
+#![tactic(auto)]
+
 ghost use Rattle.compile.specs.Printed.{ListPrinted};
 
 use answers::Check;
