@@ -82,6 +82,7 @@ module _ (s : List ℕ) (e : least (table_rungs s) ≡ Pass) where
       go zero h q = let z : x ≡ i = sym f ∙ q in rw z left_part
       go (suc zero) h q = let z : y ≡ i = sym g ∙ q in rw z right_part
       go (suc (suc m)) h q = absurd (omega arith)
+  part_of_lem j i (kind_entry (Rattle.calculus.specs.Terms.build1 x4 _)) _ p = elim x4 [ ]
 
   step_in : (k : ℕ) → k < steps s → In (step_at s k) (table_of s).steps
   unfolding listed

@@ -65,6 +65,7 @@ bound_apart (s ∷ ss) u x zero (suc k) h l p q = clash (binders signature1 s) u
     clash : (a : List ℕ) {b : List ℕ} → Distinct (a ++ b) → In x a → In x b → ⊥
     clash (y ∷ a) (di_cons n u) here q = not_in_in n (in_append_right a q)
     clash (y ∷ a) (di_cons n u) (there p) q = clash a u p q
+    clash [] {b = b} _ x11 q = elim x11 [ ]
 bound_apart (s ∷ ss) u x (suc j) (suc k) h l p q = bound_apart ss (distinct_tail (binders signature1 s) u) x j k (omega arith) (omega arith) p q
 
 -- what one step binds, it binds once

@@ -25,7 +25,7 @@ loop-x-preserved c =
     let l = c.loop-x in
     let m = c.mark_bound.ensures in
     let g = c.note_if_free-registers.ensures in
-    (omega arith, omega (arith, g.0), λ e b. let h = l.invariant.2 e b in rw (free_more s l.x) (g.1 (bound_in s) (free_to s l.x) (marked_right s e m) h.0 h.1))
+    (omega arith, omega (arith, g.few), λ e b. let h = l.invariant.2 e b in rw (free_more s l.x) (g.noted (bound_in s) (free_to s l.x) (marked_right s e m) h.0 h.1))
 
 pub returns : goal.returns
 returns c =

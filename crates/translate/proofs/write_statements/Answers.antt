@@ -28,7 +28,7 @@ passed : (c : goal.After-statement_count) → least (table_rungs (table c)) ≡ 
 passed c = sym c.check_table-a.ensures ∙ c.enum_told-1.given.1
 
 counted : (c : goal.After-statement_count) → c.statement_count.result ≡ length (translation signature1 halves (table_of (table c)))
-counted c = c.statement_count.ensures.1 (passed c)
+counted c = c.statement_count.ensures.known (passed c)
 
 bytes_counted : (c : goal.After-statement_count) → length (bytes c) ≡ 4 * c.statement_count.result
 bytes_counted c = omega (arith, counted c, bytes_length (translation signature1 halves (table_of (table c))))

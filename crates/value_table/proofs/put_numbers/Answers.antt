@@ -4,4 +4,4 @@ use Rattle.value_table.proofs.put_numbers.Goals as goal
 
 pub returns : goal.returns
 unfolding five_bytes
-returns c = c.put_five.ensures.1
+returns c = c.put_five.ensures.written
