@@ -10,7 +10,7 @@ use lib.ListN.{length}
 use Rattle.codes.specs.Rows.{part_role, symbol_role}
 use Rattle.table_layout.specs.Layout.{terms, term_field, term_role}
 use Rattle.calculus.specs.Signature.{Two}
-use Rattle.calculus.specs.Terms.{Term, leaf, two, build2}
+use Rattle.calculus.specs.Terms.{build1, Term, leaf, two, build2}
 use Rattle.calculus.specs.Tables.{Entry, leaf_entry, kind_entry, entry_at, denoted, Lower, low_leaf, low_two, Closed}
 use Rattle.calculus.specs.Scope.{Lacks, la_symbol, la_two}
 use Rattle.calculus.specs.Version1.{Seal1, signature1}
@@ -77,6 +77,7 @@ module _ (s : List ℕ) (n : Entered s) where
         go (kind_entry (build2 k a b)) q (two_parts l e r f) g =
             rw (denoted_two signature1 0 (table_of s).entries table_closed t q)
             (join k a b (part 0 a (omega arith) l e) (part 1 b (omega arith) r f) (g a (parts_lower s n t a h (left_part l e))) (g b (parts_lower s n t b h (right_part r f))))
+        go (kind_entry (build1 x8 _)) q _ g = elim x8 [ ]
 
     -- and not both
     holds_not_lacks : {t : ℕ} → Holds s t x → t < terms s → ¬ Lacks signature1 x (term_of s t)
@@ -90,6 +91,7 @@ module _ (s : List ℕ) (n : Entered s) where
         go (kind_entry (build2 k a b)) q (two_parts l d r f) zero u v e = omega arith
         go (kind_entry (build2 k a b)) q (two_parts l d r f) (suc zero) u v e = omega arith
         go (kind_entry (build2 k a b)) q (two_parts l d r f) (suc (suc j)) u v e = omega arith
+        go (kind_entry (build1 x16 _)) q _ _ u v e = elim x16 [ ]
     holds_not_lacks {t} (inside j u r m) h w =
         go (term_at s t) (entry_at_lem s t h) (term_names_lem s n t h) j u r (λ l o. holds_not_lacks m l o)
       where
@@ -105,6 +107,7 @@ module _ (s : List ℕ) (n : Entered s) where
             let p = parts_lower s n t b h (right_part r f) in
             o (omega arith) (rw f (two_lacks (rw (denoted_two signature1 0 (table_of s).entries table_closed t q) at w)).1)
         go (kind_entry (build2 k a b)) q (two_parts l d r f) (suc (suc j)) u v o = omega arith
+        go (kind_entry (build1 x12 _)) q _ _ u v o = elim x12 [ ]
 
     -- a term that does not hold x lacks it
     pub lacks_unheld : (t : ℕ) → t < terms s → ¬ Holds s t x → Lacks signature1 x (term_of s t)

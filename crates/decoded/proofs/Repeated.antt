@@ -143,7 +143,7 @@ six_means_value s i = (λ e. to (refused_at before (equal_rung s) [] (refusal 6 
 
     means : least before ≡ Pass → FirstBroken (equal_rung s) (refusal 6 2 i) ↔ ((i < values s) × FirstWith (TreeRepeated signature1 no_atom (values_of s)) i)
     means p =
-        let right = (trace_entered s [] p).0.Each-right in
+        let right = (trace_entered s [] p).0.each_right in
         six_means no_atom (values_of s) s 3 2 10 (values s) (values_told s right) (values_closed s (version s) right) (values_length s) i
 
     to : (least before ≡ Pass) × FirstBroken (equal_rung s) (refusal 6 2 i) → (least before ≡ Pass) × (i < values s) × FirstWith (TreeRepeated signature1 no_atom (values_of s)) i

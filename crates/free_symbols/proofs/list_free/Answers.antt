@@ -23,7 +23,7 @@ loop-x-preserved c =
     let l = c.loop-x in
     let m = c.mark_bound.ensures in
     let g = c.list_if_free-count.ensures in
-    (omega arith, omega (arith, g.0), λ e k. rw (free_more s l.x) (g.1 (bound_in s) (free_to s l.x) (marked_right s e m) (l.invariant.2 e k)))
+    (omega arith, omega (arith, g.few), λ e k. rw (free_more s l.x) (g.listed (bound_in s) (free_to s l.x) (marked_right s e m) (l.invariant.2 e k)))
 
 pub returns : goal.returns
 returns c =

@@ -20,4 +20,4 @@ pub returns : goal.returns
 returns c =
     let s : List ℕ = c.args.s.now in
     let p = c.loop-i.invariant in
-    ((rw c.term_count-n.ensures at (sum_done p c.loop-i-test.false)) ∙ sym (compound_total s), omega (arith, sum_small p (compound_small s)))
+    record { counted = (rw c.term_count-n.ensures at (sum_done p c.loop-i-test.false)) ∙ sym (compound_total s); small = omega (arith, sum_small p (compound_small s)) }

@@ -20,4 +20,4 @@ pub returns : goal.returns
 returns c =
     let s : List ℕ = c.args.s.now in
     let p = c.loop-k.invariant in
-    ((rw c.step_count-n.ensures at (sum_done p c.loop-k-test.false)) ∙ sym (due_total s), omega (arith, sum_small p (due_small s)))
+    record { counted = (rw c.step_count-n.ensures at (sum_done p c.loop-k-test.false)) ∙ sym (due_total s); small = omega (arith, sum_small p (due_small s)) }

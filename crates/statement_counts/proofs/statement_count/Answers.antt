@@ -4,10 +4,10 @@ use native.Mathlib.Omega.{arith}
 use Rattle.statement_counts.proofs.statement_count.Goals as goal
 
 pub overflow_add-result : goal.overflow_add-result
-overflow_add-result c = omega (arith, c.compound_count.ensures.1, c.due_count.ensures.1)
+overflow_add-result c = omega (arith, c.compound_count.ensures.small, c.due_count.ensures.small)
 
 pub returns : goal.returns
 returns c =
-    let d = c.due_count.ensures.0 in
-    let m = c.compound_count.ensures.0 in
-    (rw (d, m), λ e. rw (d, m) (count_known _ e))
+    let d = c.due_count.ensures.counted in
+    let m = c.compound_count.ensures.counted in
+    record { due = rw (d, m); known = λ e. rw (d, m) (count_known _ e) }
