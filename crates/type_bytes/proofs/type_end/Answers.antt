@@ -1,5 +1,4 @@
 -- `type_bytes::type_end` meets its contract: the types still wanted, from here on, are the type at p. Assumes nothing.
-use Prim.Native.Nat.{◌-◌}
 use native.Mathlib.Omega.{arith}
 use borrow.Author.Rules.{rules}
 use Rattle.type_bytes.proofs.CountLaws.{wants_start, wants_none, wants_past, wants_unknown, wants_whole, wants_pair, wants_cipher}
