@@ -1,5 +1,7 @@
 // What the programs write: a refusal as one line, `refused`, number, file, place in decimal with single spaces and a final line feed;
 // or `accepted`.
+#![tactic(auto)]
+
 ghost use Rattle.std.specs.Prelude.{◌+◌, ◌≤◌, length};
 ghost use Rattle.lines.specs.Lines.{Appended, NumberPut, LinePut, CheckPut};
 

@@ -1,5 +1,7 @@
 // The static library: the readers and services as C functions over slices, for tests and for programs in other languages.
 // Each answers the refusal number, 0 for none, and gives eight entries: number, file, place, then what was read.
+#![tactic(auto)]
+
 ghost use Rattle.std.specs.Prelude.{[], ◌∷◌, ◌≡◌, leb};
 ghost use Rattle.base.specs.Pick.{pick};
 ghost use Rattle.type_service.specs.Services.{Answered, types_file};
