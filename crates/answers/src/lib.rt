@@ -1,4 +1,6 @@
 // The refusal: one number with its file and place. Each layer of a reader answers a `Check`, and a refusal is passed on whole.
+#![tactic(auto)]
+
 ghost use Rattle.std.specs.Prelude.{◌≡◌};
 ghost use Rattle.answers.specs.Ladder.{refusal};
 

@@ -1,5 +1,7 @@
 // What every reader shares: reads that answer at any place.
 // A byte past the end reads as 0, so no reader asks its caller for a bound; that a file is long enough is a test of its own.
+#![tactic(auto)]
+
 ghost use Rattle.std.specs.Prelude.{◌≡◌};
 ghost use Rattle.base.specs.Bytes.{byte, word};
 

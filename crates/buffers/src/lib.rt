@@ -1,5 +1,7 @@
 // Writers at the start of a lent buffer: bytes beyond what is written keep their values.
 // A writer that finds its buffer too short answers false and writes nothing. To write mid-buffer, lend a part that starts there.
+#![tactic(auto)]
+
 ghost use Rattle.std.specs.Prelude.{◌≡◌, [], ◌∷◌, ◌≤◌, leb, length};
 ghost use Rattle.buffers.specs.Over.{over, over_if};
 

@@ -59,6 +59,7 @@ module _ {A : Type 0} {P : A → Type 0} where
   all_of (x ∷ l) h = all_cons (h x here) (all_of l (λ y i. h y (there i)))
 
   pub all_in : {l : List A} → All P l → (x : A) → In x l → P x
+  all_in all_nil x i = elim i [ ]
   all_in (all_cons p ps) x here = p
   all_in (all_cons p ps) x (there i) = all_in ps x i
 
@@ -112,6 +113,7 @@ in_or_not x (y ∷ l) = go (ℕ_discrete x y) (in_or_not x l)
     go (no n) (inr o) = inr (all_cons n o)
 
 pub not_in_in : {x : ℕ} {l : List ℕ} → NotIn x l → In x l → ⊥
+not_in_in all_nil i = elim i [ ]
 not_in_in (all_cons n ns) here = n refl
 not_in_in (all_cons n ns) (there i) = not_in_in ns i
 

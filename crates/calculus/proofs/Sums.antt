@@ -97,5 +97,6 @@ rest_zero (suc n) l f h = let a = rest_zero n l f h in let b = mask_le (f n) 0 0
 
 pub sum_elem : {x : ℕ} (l : List ℕ) (f : ℕ → ℕ) → In x l → f x ≤ sum l f
 unfolding sum
+sum_elem [] f i = elim i [ ]
 sum_elem (y ∷ l) f here = omega arith
 sum_elem (y ∷ l) f (there i) = let a = sum_elem l f i in omega arith

@@ -1,5 +1,7 @@
 // The codes of the three files as tables that every reader consults: marks and headers, and for each code of an entry the
 // version that knows it and the role of each field. Request a), e) and h) of document 02 add rows, and no reader changes.
+#![tactic(auto)]
+
 ghost use Rattle.std.specs.Prelude.{◌≡◌, leb};
 ghost use Rattle.codes.specs.Rows.{cell, fields, field_bytes, width, known, atom_kinds, limits_of};
 ghost use Rattle.codes.specs.Types.{type_parts, type_known};

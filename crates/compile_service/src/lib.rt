@@ -1,5 +1,7 @@
 // The compile service: the statement list of a role table, or a refusal, which writes nothing. The bytes needed are known before
 // the first is written. Each part of the list is written through a part of the lent buffer that starts mid-buffer.
+#![tactic(auto)]
+
 ghost use Rattle.std.specs.Prelude.{◌≡◌, ◌≤◌, ◌<◌, length};
 ghost use Rattle.buffers.specs.Over.{over};
 ghost use Rattle.decoded_list.specs.Bytes.{header_bytes};

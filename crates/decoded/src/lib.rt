@@ -1,1 +1,2 @@
 // What checked bytes mean. Definitions and theorems only: there is no code.
+#![tactic(auto)]

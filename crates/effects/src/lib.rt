@@ -1,6 +1,8 @@
 // What each kind of statement does to a run: over the list's types, the trace's supply, a value table and messages in lent buffers, and
 // registers in a lent array. A register's number is even where it means a compound term, odd where it means a symbol (`run_parts`).
 // Nothing is asked of the caller: what has no room is not written.
+#![tactic(auto)]
+
 ghost use Rattle.std.specs.Prelude.{◌≡◌, List, ℕ};
 ghost use Rattle.calculus.specs.Signature.{Two};
 ghost use Rattle.calculus.specs.Terms.{Side, send as sends, receive as receives, fresh as freshens, compare as compares, decrypt as decrypts};

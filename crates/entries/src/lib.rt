@@ -1,5 +1,7 @@
 // Entries of a code and its fields, of any kind, read from a base offset on. That a file is long enough is its reader's test.
 // Terms and values are checked here, since they differ only in their rows: parts are lower, and no entry equals an earlier one.
+#![tactic(auto)]
+
 ghost use Rattle.std.specs.Prelude.{◌≡◌, [], ◌∷◌};
 ghost use Rattle.answers.specs.Ladder.{least};
 ghost use Rattle.entries.specs.Fields.{number, place_of, code, field, role, field_ok, fields_ok, entry_ok, same_entry};

@@ -1,5 +1,7 @@
 // One statement of a judged list, executed: its code decides what is done, its fields with what and into which symbol.
 // Nothing is asked of the caller: registers that are not given hold value 0, and what has no room is not written.
+#![tactic(auto)]
+
 ghost use Rattle.effects.specs.Effects.{Does};
 ghost use Rattle.execution.specs.Execution.{builds_at, messages_at, executing_at};
 

@@ -1,5 +1,7 @@
 // Number 6 of entries of two fields in time that grows with their count: each is filed by its key, so that an equal one is found
 // without comparing all. Whatever the keys, the answer is that of comparing all.
+#![tactic(auto)]
+
 ghost use Rattle.std.specs.Prelude.{◌≡◌, [], ◌∷◌};
 ghost use Rattle.answers.specs.Ladder.{least};
 ghost use Rattle.entries.specs.Faults.{twin_rung};

@@ -1,5 +1,7 @@
 // The free symbols of a role table, by index: those that no step binds. Nothing is asked of the caller; what is said of a table
 // is said where 1 to 9 pass.
+#![tactic(auto)]
+
 ghost use Rattle.std.specs.Prelude.{◌≡◌, ◌+◌, ◌≤◌, ◌<◌};
 ghost use Rattle.answers.specs.Ladder.{least};
 ghost use Rattle.answers.specs.declared.Check.TheVariants.{Pass};

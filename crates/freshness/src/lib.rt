@@ -2,6 +2,8 @@
 // Values are shared, so none is unfolded: there is one mark a value. Held values are marked, then, from the last value down, the parts of
 // marked ones, since parts are lower. A run has at most 1,536 values: 1,024 of the trace, and one for each of 512 statements.
 // All bounds are tested once, before the passes, which then read without a test: they are the longest part of a fresh name.
+#![tactic(auto)]
+
 ghost use Rattle.std.specs.Prelude.{◌≡◌, ◌+◌, ◌*◌, ◌<◌, ◌≤◌, eqb, ltb, length};
 ghost use Rattle.base.specs.Bytes.{byte, word};
 ghost use Rattle.base.specs.Pick.{both};

@@ -1,5 +1,7 @@
 // The judge service: accepts a list exactly if it is a faithful rendering of a role table with its widest types. The table itself is
 // taken, never a claim about it.
+#![tactic(auto)]
+
 ghost use Rattle.judge_service.specs.Judged.{VerdictGiven, Judged, TypedJudged};
 
 use answers::Check;

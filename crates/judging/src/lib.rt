@@ -1,6 +1,8 @@
 // The judge's walk over a list's statements: numbers 12 and 13.
 // What a register means is one byte: symbol x is x, and compound term i is 255 - i, so that equal meanings are equal bytes.
 // An array holds the meanings of registers 0 to 255; those above can't be named, and are only counted.
+#![tactic(auto)]
+
 ghost use Rattle.std.specs.Prelude.{◌≡◌, not, ◌+◌, ◌<◌};
 ghost use Rattle.base.specs.Pick.{both};
 ghost use Rattle.base.specs.Search.{first};

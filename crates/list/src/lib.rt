@@ -1,5 +1,7 @@
 // The statement list: numbers 1 to 5, and the part of a list that holds a symbol's type.
 // Nothing is asked of the caller: a list that is too short reads as zeros, and number 4 turns it down.
+#![tactic(auto)]
+
 ghost use Rattle.std.specs.Prelude.{◌≡◌, [], ◌∷◌, ◌+◌, ◌≤◌, ◌<◌};
 ghost use Rattle.answers.specs.Ladder.{least};
 ghost use Rattle.entries.specs.Fields.{field};

@@ -1,5 +1,7 @@
 // The machine that runs a judged list on a trace: statement after statement, until one ends the run.
 // The values go to one lent buffer, after a copy of the trace's, and the messages to another; bytes beyond keep their values.
+#![tactic(auto)]
+
 ghost use Rattle.std.specs.Prelude.{◌≡◌};
 ghost use Rattle.trace.specs.Layout.{starting};
 ghost use Rattle.machine.specs.Running.{ended_as, stopped_as, Started, RunFrom};

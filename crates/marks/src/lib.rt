@@ -1,4 +1,6 @@
 // Marks in an array that has a place for every byte, so that no index can be out of range.
+#![tactic(auto)]
+
 ghost use Rattle.std.specs.Prelude.{◌≡◌, eqb, get_or};
 ghost use Rattle.base.specs.Pick.{both};
 ghost use Rattle.marks.specs.Put.{Put};

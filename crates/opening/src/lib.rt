@@ -1,4 +1,6 @@
 // How each of the three files is framed: numbers 1 to 4.
+#![tactic(auto)]
+
 ghost use Rattle.std.specs.Prelude.{◌≡◌};
 ghost use Rattle.answers.specs.Ladder.{least};
 ghost use Rattle.opening.specs.Opening.{marked, open_rungs, framed};

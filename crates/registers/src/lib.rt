@@ -1,5 +1,7 @@
 // Which register holds each symbol and each compound term: two arrays. An array holds the mark of each thing of its sort: one more than
 // its register, and 0 where it has none yet. Nothing is asked of the caller.
+#![tactic(auto)]
+
 ghost use Rattle.std.specs.Prelude.{◌≡◌, ◌+◌, ◌<◌, ◌≤◌};
 ghost use Rattle.registers.specs.Held.{held_at, register_in, settled, Noted, NotesFree, FreeNoted};
 

@@ -22,7 +22,7 @@ use Rattle.rendering.proofs.ActLaws.{parts_map, part_lower}
 
 -- ── Registers ──
 
-pub register_in_lem : {ms : List Meaning} {m : Meaning} → In m ms → get_elem? ms (register_of ms m) ≡ some m
+pub register_in_lem : {m : Meaning} {ms : List Meaning} → In m ms → get_elem? ms (register_of ms m) ≡ some m
 unfolding register_of decide
 register_in_lem {m = m} (here {l = l}) = go (same_meant m m)
   where
@@ -35,7 +35,7 @@ register_in_lem {m = m} (there {y = y} {l = l} i) = go (same_meant m y) (registe
     go (yes e) h = ap some (sym e)
     go (no n) h = h
 
-pub register_below : {ms : List Meaning} {m : Meaning} → In m ms → register_of ms m < length ms
+pub register_below : {m : Meaning} {ms : List Meaning} → In m ms → register_of ms m < length ms
 unfolding register_of decide
 register_below {m = m} (here {l = l}) = go (same_meant m m)
   where
@@ -57,7 +57,7 @@ built_in (n ∷ ms) m h = go (same_meant m n) h (built_in ms m)
     go (yes e) h f = rw e here
     go (no k) h f = there (f h)
 
-in_built : {ms : List Meaning} {m : Meaning} → In m ms → is_built ms m ≡ true
+in_built : {m : Meaning} {ms : List Meaning} → In m ms → is_built ms m ≡ true
 unfolding is_built decide
 in_built {m = m} (here {l = l}) = go (same_meant m m)
   where
@@ -95,7 +95,7 @@ term_in (symbol x ∷ ms) i = there (term_in ms i)
 term_in (term j ∷ ms) here = here
 term_in (term j ∷ ms) (there i) = there (term_in ms i)
 
-pub in_term : {ms : List Meaning} {m : Meaning} → In m ms → (i : ℕ) → m ≡ term i → In i (terms_of ms)
+pub in_term : {m : Meaning} {ms : List Meaning} → In m ms → (i : ℕ) → m ≡ term i → In i (terms_of ms)
 unfolding terms_of
 in_term {m = m} (here {l = l}) i e = rw e here
 in_term {m = m} (there {y = symbol x} {l = l} j) i e = in_term j i e

@@ -5,7 +5,7 @@ use Prim.Native.Nat.{ℕ, zero, suc, ◌<◌, ◌≤◌, zero-le}
 use native.Mathlib.Omega.{arith}
 use native.Mathlib.Decide.{ℕ_discrete}
 use lib.ListN.{length}
-use Rattle.calculus.specs.Scope.{In, here, there, All, all_cons, NotIn, Distinct, di_nil, di_cons}
+use Rattle.calculus.specs.Scope.{In, here, there, All, all_nil, all_cons, NotIn, Distinct, di_nil, di_cons}
 use Rattle.calculus.proofs.Lists.{all_in}
 
 -- a list without one of its elements
@@ -35,6 +35,7 @@ no_longer {ys = ys} (di_cons {x = x} {l = l} n d) h =
     omega arith
   where
     differs : {y : ℕ} {l : List ℕ} → NotIn x l → In y l → y ≡ x → ⊥
+    differs all_nil i e = elim i [ ]
     differs (all_cons n ns) here e = n (sym e)
     differs (all_cons n ns) (there i) e = differs ns i e
 

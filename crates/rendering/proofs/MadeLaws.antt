@@ -42,6 +42,7 @@ module _ (𝓢 : Signature) (es : List (Entry 𝓢 ℕ)) (low : Closed 𝓢 0 es
   no_symbol B xs i = go xs i refl
     where
       go : (xs : List ℕ) {M : Term 𝓢} → In M (map leaf xs) → built 𝓢 B ≡ M → ⊥
+      go [] i e = elim i [ ]
       go (x ∷ xs) here e = no_leaf_built 𝓢 es low B x e
       go (x ∷ xs) (there i) e = go xs i e
 
@@ -112,9 +113,9 @@ module _ (𝓢 : Signature) (es : List (Entry 𝓢 ℕ)) (low : Closed 𝓢 0 es
   step_due merged n (split a x y) ws = record { due = (n, whole (split a x y)); is_due = here; names = λ c i. i }
   step_due v n (decrypt s a b x) ws = record { due = (n, whole (decrypt s a b x)); is_due = here; names = λ c i. i }
 
-  due_of_lem : {X : Type 0} (v : Splitting) (n : ℕ) {P : List (Act 𝓢 X)} {s : Act 𝓢 X} → In s P → DueOf s (dues 𝓢 v n P)
+  due_of_lem : {X : Type 0} (v : Splitting) {s : Act 𝓢 X} (n : ℕ) {P : List (Act 𝓢 X)} → In s P → DueOf s (dues 𝓢 v n P)
   unfolding dues
-  due_of_lem v n {s = s} (here {l = P}) = step_due v n s (dues 𝓢 v (suc n) P)
+  due_of_lem v {s = s} n (here {l = P}) = step_due v n s (dues 𝓢 v (suc n) P)
   due_of_lem v n (there {y = y} {l = P} i) = let r = due_of_lem v (suc n) i in record { due = r.due; is_due = in_append_right (map (λ w. (n, w)) (dues_of 𝓢 v y)) r.is_due; names = r.names }
 
 module _ (𝓢 : Signature) (v : Splitting) (t : Table 𝓢) (ss : List (Statement 𝓢)) (ns : List (Term 𝓢)) (c : Checked 𝓢 t) (f : Beginning 𝓢 v t ss ns []) where

@@ -6,7 +6,7 @@ use Prim.Native.Nat.{ℕ, zero, suc, ◌+◌, ◌*◌, ◌<◌, ◌≤◌, suc-l
 use native.Mathlib.Omega.{arith}
 use lib.ListN.{length, length-append, length-map}
 use Rattle.calculus.specs.Signature.{Signature}
-use Rattle.calculus.specs.Terms.{Term, Build, Act, send, receive, fresh, compare, split, decrypt, map_act, binders, bound}
+use Rattle.calculus.specs.Terms.{Term, Build, Act, send, receive, fresh, compare, split, decrypt, map_act, bound}
 use Rattle.calculus.specs.Tables.{Entry, leaf_entry, kind_entry, entry_at, denoted, Unrepeated, Table, process, free}
 use Rattle.calculus.specs.Scope.{In, here, there, All, all_nil, all_cons, Distinct, di_nil, di_cons}
 use Rattle.calculus.specs.Typing.{Checked}

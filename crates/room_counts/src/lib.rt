@@ -1,5 +1,7 @@
 // The two counts behind number 15: the statements that build, each of which may make a value, and those that send or receive, each of
 // which logs a message. They are counted from the list as it is written, whatever a run does.
+#![tactic(auto)]
+
 ghost use Rattle.std.specs.Prelude.{◌≡◌};
 ghost use Rattle.calculus.specs.Version1.{signature1};
 ghost use Rattle.running.specs.Demand3.{builds, messages};

@@ -2,6 +2,8 @@
 // and the test of a value by a symbol's type.
 // A register is one number: twice the index of its value, and 1 more where it means a symbol.
 // Nothing is asked of the caller: registers that are not given hold value 0, and what has no room is not written.
+#![tactic(auto)]
+
 ghost use Rattle.std.specs.Prelude.{◌≡◌};
 ghost use Rattle.trace.specs.Layout.{supply};
 ghost use Rattle.run_parts.specs.Registers.{value_in, Gives};

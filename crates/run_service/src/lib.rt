@@ -1,5 +1,7 @@
 // The run service: a list run on a trace. All the judge's refusals come first, then the trace's 1 to 6, 14, and 15 for the two lent
 // buffers; only then a byte is written.
+#![tactic(auto)]
+
 ghost use Rattle.run_service.specs.Runs.{RunChecked, RunAnswered};
 
 use answers::Check;

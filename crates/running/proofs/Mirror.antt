@@ -14,7 +14,7 @@ use Rattle.calculus.specs.Scope.{All, all_nil, all_cons}
 use Rattle.calculus.proofs.Lists.{map_append, all_append}
 use Rattle.calculus.proofs.TableLaws.{binders_map}
 use Rattle.rendering.proofs.ActLaws.{ActZip, BuildZip, zip_one, zip_two}
-use Rattle.running.specs.Values.{pair_parts, inside, tree, index}
+use Rattle.running.specs.Values.{pair_parts, tree, index}
 use Rattle.running.specs.Acts.{Both, Ending, finished, Logged, on_logged, Out, goes, stops, Tests, perform, Result, ended, and_then}
 use Rattle.running.specs.Lists.{Register, symbol_register, term_register, held, holds, side_of, half_of, in_registers, execute, run, made, table, trees}
 use Rattle.running.specs.Demand3.{value_of, builds, speaks, messages}

@@ -26,7 +26,7 @@ module _ (𝓢 : Signature) where
   fresh_all [] v h = all_nil
   fresh_all (w ∷ held) v h = all_cons (λ o. false≢true (sym (ap not (occurs_found 𝓢 o)) ∙ and_left (not (occurs_in 𝓢 v w)) _ h)) (fresh_all held v (and_right (not (occurs_in 𝓢 v w)) _ h))
 
-  pub all_fresh : {held : List Val} (v : Val) → Fresh 𝓢 held v → is_fresh 𝓢 (tree 𝓢) held v ≡ true
+  pub all_fresh : (v : Val) {held : List Val} → Fresh 𝓢 held v → is_fresh 𝓢 (tree 𝓢) held v ≡ true
   unfolding is_fresh
   all_fresh v all_nil = refl
   all_fresh v (all_cons {x = w} n ns) = and_both (go (occurs_in 𝓢 v w) refl) (all_fresh v ns)

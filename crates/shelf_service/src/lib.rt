@@ -1,5 +1,7 @@
 // The shelf service: one table and up to 64 lists, laid end to end with their lengths; for each list what judging it by itself gives.
 // The table is checked and typed once.
+#![tactic(auto)]
+
 ghost use Rattle.std.specs.Prelude.{◌≡◌, ◌*◌, ◌≤◌, eqb, length};
 ghost use Rattle.shelf_service.specs.Shelf.{total, ShelfChecked, VerdictPut, ListJudged, ListsJudged, ShelfAnswered};
 

@@ -1,5 +1,7 @@
 // The symbols' types in slots of one lent array, and a wanted type pushed down a term of a role table.
 // There are 96 slots of 129 bytes, each with a type at its start; a type shows its own end, so a slot has no length byte.
+#![tactic(auto)]
+
 ghost use Rattle.std.specs.Prelude.{◌≡◌, [], ◌∷◌, ◌*◌, ◌+◌, ◌-◌, ◌<◌, ◌≤◌};
 ghost use Rattle.types.specs.Version1.{bytes};
 ghost use Rattle.type_bytes.specs.Pending.{stacked};

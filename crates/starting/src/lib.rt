@@ -1,5 +1,7 @@
 // Number 14: a starting value for each free symbol, and each visibly has its symbol's type. The values are read in the trace itself,
 // since nothing is written before 15 passes.
+#![tactic(auto)]
+
 ghost use Rattle.starting.specs.Fourteen.{StartSeen, StartsChecked};
 
 use answers::Check;

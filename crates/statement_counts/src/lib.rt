@@ -1,5 +1,7 @@
 // N, the number of statements of a table's translation, known before anything is written: the statements that the steps make due, and
 // one for each compound term. Nothing is asked of the caller; what is said of a translation is said where 1 to 9 pass.
+#![tactic(auto)]
+
 ghost use Rattle.std.specs.Prelude.{◌≡◌, ◌+◌, ◌<◌, length};
 ghost use Rattle.answers.specs.Ladder.{least};
 ghost use Rattle.answers.specs.declared.Check.TheVariants.{Pass};

@@ -1,4 +1,6 @@
 // The role table: numbers 1 to 9, layer by layer, and what was read.
+#![tactic(auto)]
+
 ghost use Rattle.std.specs.Prelude.{◌≡◌};
 ghost use Rattle.answers.specs.Ladder.{least};
 ghost use Rattle.table.specs.Faults.{table_rungs};

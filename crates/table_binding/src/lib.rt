@@ -1,6 +1,8 @@
 // Symbols bound again, and symbols used before they are bound: numbers 8 and 9.
 // One pass over the steps finds each symbol's binding step, one over the terms the latest binding step inside each term,
 // and one more over the steps compares. A shared term is looked at once, however often it is used.
+#![tactic(auto)]
+
 ghost use Rattle.std.specs.Prelude.{◌≡◌, [], ◌∷◌, ◌+◌, ◌<◌};
 ghost use Rattle.answers.specs.Ladder.{least};
 ghost use Rattle.marks.specs.Put.{Put, blank};

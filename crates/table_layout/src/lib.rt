@@ -1,4 +1,6 @@
 // The role table's layout: its parts read by index, and numbers 1 to 5.
+#![tactic(auto)]
+
 ghost use Rattle.std.specs.Prelude.{◌≡◌, [], ◌∷◌};
 ghost use Rattle.answers.specs.Ladder.{least};
 ghost use Rattle.entries.specs.Fields.{code};

@@ -1,5 +1,7 @@
 // Terms that equal an earlier one, and terms that nothing names: numbers 6 and 7.
 // Naming is found in one pass over the terms and one over the steps, which leave a mark for each term that they name.
+#![tactic(auto)]
+
 ghost use Rattle.std.specs.Prelude.{◌≡◌, [], ◌∷◌};
 ghost use Rattle.answers.specs.Ladder.{least};
 ghost use Rattle.base.specs.Search.{some};

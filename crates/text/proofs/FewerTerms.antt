@@ -9,7 +9,7 @@ use lib.ListN.{length, length-map}
 use Rattle.calculus.specs.Signature.{Two}
 use Rattle.calculus.specs.Terms.{Tree, leaf, two, build1, build2, Act, send, receive, fresh, compare, split, decrypt, map_act, operands}
 use Rattle.calculus.specs.Tables.{Entry, leaf_entry, kind_entry, Lower, low_two, Table, process}
-use Rattle.calculus.specs.Scope.{In, there}
+use Rattle.calculus.specs.Scope.{In}
 use Rattle.calculus.specs.Version1.{Seal1, signature1}
 use Rattle.calculus.proofs.Lists.{in_map, in_unmap}
 use Rattle.calculus.proofs.TableLaws.{denoted_leaf, denoted_two, equal_trees_equal_indexes}

@@ -121,7 +121,9 @@ module _ (ρ : ℕ → ℕ) (n : ℕ) (apart : (x y : ℕ) → x < n → y < n �
     term_typed : {M : Tr} {A : Types signature1} → Has signature1 Γ M A → (l : ℕ) → Shaped n l M → Has signature1 Δ (rename_term ρ M) A
     unfolding rename_term
     term_typed (T-Var {x = x}) l (shaped_leaf h) = rw (sym (same x h)) T-Var
+    term_typed (T-Pair p q) zero a = elim a [ ]
     term_typed (T-Pair p q) (suc l) (shaped_two a b) = T-Pair (term_typed p l a) (term_typed q l b)
+    term_typed (T-ShKC p q) zero a = elim a [ ]
     term_typed (T-ShKC p q) (suc l) (shaped_two a b) = T-ShKC (term_typed p l a) (term_typed q l b)
     term_typed (T-One {k = k} p) l a = elim k [ ]
     term_typed (T-Sub p e) l a = T-Sub (term_typed p l a) e

@@ -99,6 +99,7 @@ view_steps_upto (suc n) [] h = view_no_steps
 view_steps_upto (suc n) (b ∷ s) h = rw (steps_more b s) (chosen (b ∷ s) same (go (λ r. view_steps_upto n r)))
   where
     same : (r : List ℕ) → SameStart (b ∷ s) r → steps_of r ≡ step_then_steps steps_of r
+    same [] h = elim h [ ]
     same (b ∷ r) both_go = steps_more b r
 
     go : ((r : List ℕ) → length r ≤ n → StepsView r) → View steps_b (All StepFits) (λ k. k) (step_then_steps steps_of) (b ∷ s) (step_then_steps steps_of (b ∷ s))

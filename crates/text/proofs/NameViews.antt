@@ -32,6 +32,7 @@ view_expect (b ∷ w) [] = view_stuck [] (b ∷ w) refl (λ k. refl) tt end
 view_expect (b ∷ w) (c ∷ s) = go (eqb b c) refl (expect w s) (view_expect w s)
   where
     other : eqb b c ≡ false → (r' : List ℕ) → SameStart (c ∷ s) r' → expect (b ∷ w) r' ≡ stuck tt r'
+    other e [] h = elim h [ ]
     other e (c ∷ r) both_go = rw e
 
     go : (t : Bool) → eqb b c ≡ t → (a : Read (Unit {0})) → View (λ u k. w ++ k) AnyUnit (λ k. k) (expect w) s a
@@ -80,6 +81,7 @@ name_bytes_local (suc n) [] (b ∷ r') h = elim h [ ]
 name_bytes_local (suc n) (b ∷ s) r' h = go (is_name_byte b) refl h (name_bytes_local n s r')
   where
     ends : is_name_byte b ≡ false → (r' : List ℕ) → SameStart (b ∷ s) r' → name_bytes (suc n) r' ≡ []
+    ends e [] h = elim h [ ]
     ends e (b ∷ r) both_go = rw e
 
     go : (t : Bool) → is_name_byte b ≡ t → SameStart (drop (length (cond t (b ∷ name_bytes n s) [])) (b ∷ s)) r'
@@ -112,6 +114,7 @@ view_name (b ∷ s) = go (is_letter b) refl
     n = name_bytes 15 s
 
     other : is_letter b ≡ false → (r' : List ℕ) → SameStart (b ∷ s) r' → read_name r' ≡ stuck some_name r'
+    other e [] h = elim h [ ]
     other e (b ∷ r) both_go = rw e
 
     go : (t : Bool) → is_letter b ≡ t

@@ -86,6 +86,7 @@ module _ (xs : List Name) where
 
   only : {x y : ℕ} → In x (y ∷ []) → x ≡ y
   only here = refl
+  only (there i) = elim i [ ]
 
   of_two : {x y z : ℕ} → In x (y ∷ z ∷ []) → (x ≡ y) ⊎ (x ≡ z)
   of_two here = inl refl

@@ -98,6 +98,7 @@ names_of so (y ∷ l) x p = go (is_name_sort (sort_of so y)) p (names_of so l x)
 
 pub names_in : (so : List Sort) (l : List ℕ) (x : ℕ) → In x l → sort_of so x ≡ is_name → In x (names_among so l)
 unfolding names_among is_name_sort
+names_in so [] x p e = elim p [ ]
 names_in so (y ∷ l) x here e = rw e here
 names_in so (y ∷ l) x (there p) e = go (is_name_sort (sort_of so y)) (names_in so l x p e)
   where
@@ -108,6 +109,7 @@ names_in so (y ∷ l) x (there p) e = go (is_name_sort (sort_of so y)) (names_in
 -- what steps restrict
 pub restricted_in : (f : ℕ → Tree signature1 ℕ) (ss : List (Act signature1 ℕ)) (x : ℕ) → In (fresh x) ss → In (symbol_name x) (restricted (map written_step (map (map_act signature1 f) ss)))
 unfolding restricted written_step map_act
+restricted_in f [] x p = elim p [ ]
 restricted_in f (fresh y ∷ ss) x here = here
 restricted_in f (send a b ∷ ss) x (there p) = restricted_in f ss x p
 restricted_in f (receive a y ∷ ss) x (there p) = restricted_in f ss x p

@@ -8,7 +8,7 @@ use lib.Dec.{T, ltb}
 use lib.ListN.{length}
 use borrow.Author.Tests.{le-leb, ltb-true}
 use Rattle.calculus.specs.Signature.{Two, pairing, seal}
-use Rattle.calculus.specs.Terms.{Tree, leaf, one, two, build1, build2, Act, send, receive, fresh, compare, split, decrypt, map_act, operands, binders}
+use Rattle.calculus.specs.Terms.{Tree, leaf, two, build1, build2, Act, send, receive, fresh, compare, split, decrypt, map_act, operands, binders}
 use Rattle.calculus.specs.Tables.{is_in, Sort, sort_of, leaf_entry, kind_entry, Lower, low_two, missing, Table, free}
 use Rattle.calculus.specs.Scope.{In, here, there, All, all_nil, all_cons}
 use Rattle.calculus.specs.Version1.{signature1}

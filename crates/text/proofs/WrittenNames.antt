@@ -121,6 +121,7 @@ count_none i (y ∷ l) (all_cons n a) = rw (ne_eqb i y n) (count_none i l a)
 
 count_distinct : (i : ℕ) (l : List ℕ) → Distinct l → In i l → count_of i l ≡ 1
 unfolding count_of
+count_distinct i [] u p = elim p [ ]
 count_distinct i (y ∷ l) (di_cons n u) here = rw (eq-eqb i i refl) (ap suc (count_none i l n))
 count_distinct i (y ∷ l) (di_cons n u) (there p) = rw (ne_eqb i y (λ e. not_in_in n (rw e at p))) (count_distinct i l u p)
 

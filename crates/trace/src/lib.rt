@@ -1,4 +1,6 @@
 // The trace: its counts, its values, its starting values and its supply by index, and numbers 1 to 6.
+#![tactic(auto)]
+
 ghost use Rattle.std.specs.Prelude.{◌≡◌, [], ◌∷◌};
 ghost use Rattle.base.specs.Bytes.{word};
 ghost use Rattle.answers.specs.Ladder.{least};

@@ -1,6 +1,8 @@
 // The translation of a checked role table into statements: their bytes in a lent buffer.
 // A term is built once, just before its first use; the two arrays of `registers` say where it is then, so that a shared term is looked at
 // once for each place that names it.
+#![tactic(auto)]
+
 ghost use Rattle.std.specs.Prelude.{◌≡◌, ◌+◌, ◌*◌, ◌<◌, ◌≤◌, length};
 ghost use Rattle.answers.specs.Ladder.{least};
 ghost use Rattle.answers.specs.declared.Check.TheVariants.{Pass};

@@ -1,5 +1,7 @@
 // Types in prefix order: where one ends, a copy of one, and the greatest lower bound of two.
 // Each reader starts at a place of any list; nothing is asked of the bytes. What is written goes to the start of a lent buffer.
+#![tactic(auto)]
+
 ghost use Rattle.std.specs.Prelude.{◌≡◌};
 ghost use Rattle.types.specs.Prefix.{EndIs};
 ghost use Rattle.types.specs.Version1.{codes1};

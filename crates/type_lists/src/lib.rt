@@ -1,5 +1,7 @@
 // The types in the slots as a list has them: a length byte and the type's bytes, one after the other. Their bytes are counted
 // before the first is written.
+#![tactic(auto)]
+
 ghost use Rattle.type_lists.specs.Lists.{TypeIs, SizeIs, TypePut, TypesPut};
 
 use type_bytes::End;

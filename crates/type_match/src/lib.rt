@@ -1,4 +1,6 @@
 // Number 11: a list's types compared with the widest ones, which stand in the slots.
+#![tactic(auto)]
+
 ghost use Rattle.type_match.specs.Alike.{BodyIs, Matched};
 
 use answers::Check;

@@ -1,5 +1,7 @@
 // The type service: the widest types of a role table, each with its length byte; or a refusal, which writes nothing.
 // The stages that other services share stand here too: numbers 1 to 10 of a table, and number 15.
+#![tactic(auto)]
+
 ghost use Rattle.std.specs.Prelude.{length};
 ghost use Rattle.type_service.specs.Services.{SlotsPut, RoomChecked, Answered, types_file};
 

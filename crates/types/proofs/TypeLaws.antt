@@ -27,8 +27,12 @@ module _ (𝓣 : TypeTable) where
   pub <:_trans : {a b c : T} → a ⊑ b → b ⊑ c → a ⊑ c
   <:_trans p top = top
   <:_trans (basic p) (basic q) = basic (under_trans 𝓣.forest p q)
-  <:_trans (cipher p) (cipher q) = cipher (<:_trans p q)
-  <:_trans (pair p q) (pair r s) = pair (<:_trans p r) (<:_trans q s)
+  <:_trans (cipher {u = u} {a = a} p) (cipher {a = b} {b = c} q) = cipher (<:_trans {a = a} p q)
+  <:_trans (pair {a = a} {b = b} p q) (pair r s) = pair (<:_trans {a = a} p r) (<:_trans {a = b} q s)
+
+  -- what lies below a ciphertext type is one of the same kind
+  below_cipher : {v : 𝓣.Former} {b e : T} → e ⊑ Cipher v b → (a : T) × (e ≡ Cipher v a) × (a ⊑ b)
+  below_cipher (cipher {a = a} p) = (a, refl, p)
 
   -- ── What lies below both of two types of different shapes: nothing ──
   no_basic_cipher : {l : B} {v : 𝓣.Former} {c e : T} → e ⊑ Basic l → e ⊑ Cipher v c → ⊥
@@ -59,10 +63,18 @@ module _ (𝓣 : TypeTable) where
   plain_is (greatest h m) = greatest (basic h.0, basic h.1) (λ e k. basic_max m k.0 k.1)
 
   cipher_none : {u : 𝓣.Former} {a b e : T} → ((t : T) → Lower a b t → ⊥) → e ⊑ Cipher u a → e ⊑ Cipher u b → ⊥
-  cipher_none n (cipher p) (cipher q) = n _ (p, q)
+  cipher_none n p q =
+      let (c, i, h) = below_cipher p in
+      let (d, j, k) = below_cipher q in
+      let e : d ≡ c = cc in
+      n c (h, rw e at k)
 
   cipher_max : {u : 𝓣.Former} {a b c e : T} → ((t : T) → Lower a b t → t ⊑ c) → e ⊑ Cipher u a → e ⊑ Cipher u b → e ⊑ Cipher u c
-  cipher_max n (cipher p) (cipher q) = cipher (n _ (p, q))
+  cipher_max n p q =
+      let (c, i, h) = below_cipher p in
+      let (d, j, k) = below_cipher q in
+      let e : d ≡ c = cc in
+      rw i (cipher (n c (h, rw e at k)))
 
   around_is : (u : 𝓣.Former) {a b : T} {o : Option T} → Greatest ◌⊑◌ (Lower a b) o → Greatest ◌⊑◌ (Lower (Cipher u a) (Cipher u b)) (map (Cipher u) o)
   around_is u (nothing n) = nothing λ e h. cipher_none n h.0 h.1
@@ -93,7 +105,10 @@ module _ (𝓣 : TypeTable) where
     pub <:_antisym : {a b : T} → a ⊑ b → b ⊑ a → a ≡ b
     <:_antisym top top = refl
     <:_antisym (basic p) (basic q) = ap Basic (under_antisym 𝓣.forest falls p q)
-    <:_antisym (cipher {u = u} p) (cipher q) = ap (Cipher u) (<:_antisym p q)
+    <:_antisym (cipher {u = u} {a = a} {b = b} p) q =
+        let (c, i, h) = below_cipher q in
+        let e : c ≡ b = cc in
+        ap (Cipher u) (<:_antisym p (rw e at h))
     <:_antisym (pair p q) (pair r s) = ap₂ Pair (<:_antisym p r) (<:_antisym q s)
 
     pub types_are_ordered : TypesAreOrdered 𝓣

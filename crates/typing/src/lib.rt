@@ -1,5 +1,7 @@
 // The inference over a role table's bytes: what each step wants of its terms, the keys of the terms that stand in it, and all
 // steps from the last to the first. A shared term is visited once a step, and a wanted type is pushed along its own bytes.
+#![tactic(auto)]
+
 ghost use Rattle.std.specs.Prelude.{◌≡◌, ◌≤◌, length};
 ghost use Rattle.marks.specs.Put.{blank};
 ghost use Rattle.typing.specs.Marking.{PartsPut, DownPut, StepMarked};

@@ -1,5 +1,7 @@
 // The value table of a run: values of five bytes from the start of a lent buffer on, and bytes beyond keep their values.
 // Past the first so many values, and where a tag is unknown, the plain atom 0 is read, so that no reader asks for a bound.
+#![tactic(auto)]
+
 ghost use Rattle.std.specs.Prelude.{◌≡◌};
 ghost use Rattle.buffers.specs.Over.{over_if};
 ghost use Rattle.value_table.specs.Values.{known, tag_at, part_at, five_bytes};

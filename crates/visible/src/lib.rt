@@ -1,4 +1,6 @@
 // The visible types of values: a walk along the type's bytes. Values may share their parts, so that nothing follows a value alone.
+#![tactic(auto)]
+
 ghost use Rattle.std.specs.Prelude.{◌≡◌, [], ◌∷◌, ◌+◌, ◌-◌, ◌<◌};
 ghost use Rattle.type_bytes.specs.Pending.{stacked};
 ghost use Rattle.value_table.specs.Values.{tag_at, part_at};

@@ -1,0 +1,13 @@
+-- `lines::put_number` meets its contract. Assumes nothing.
+use Rattle.lines.proofs.LineLaws.{few_places}
+use native.Mathlib.Omega.{arith}
+use borrow.Author.Rules.{rules}
+use Rattle.lines.proofs.put_number.Goals as goal
+
+pub put_text-requires : goal.put_text-requires
+put_text-requires c =
+    omega (arith, few_places _ _ (search rules) c.decimal-k.ensures.1.0, c.decimal-k.ensures.0.1, c.requires)
+
+pub returns : goal.returns
+returns c =
+    record { text = _; decimal = record { places = c.decimal-k.result; fewest = c.decimal-k.ensures.1.0; is = c.decimal-k.ensures.1.1 }; appended = c.put_text.ensures; short = omega (arith, few_places _ _ (search rules) c.decimal-k.ensures.1.0, c.decimal-k.ensures.0.1) }

@@ -1,0 +1,8 @@
+-- `mirvashol::give_check` meets its contract. Assumes nothing.
+use Rattle.mirvashol.proofs.give_check.Goals as goal
+
+pub returns-in_default : goal.returns-in_default
+returns-in_default c = rw c.enum_told-1.given.1 c.give.ensures
+
+pub returns : goal.returns
+returns c = rw c.check-1.given.1 c.give-2.ensures

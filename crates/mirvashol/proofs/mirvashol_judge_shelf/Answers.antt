@@ -1,0 +1,9 @@
+-- `mirvashol::mirvashol_judge_shelf` meets its contract. Assumes nothing.
+use Rattle.mirvashol.proofs.Serving.{not_served, served}
+use Rattle.mirvashol.proofs.mirvashol_judge_shelf.Goals as goal
+
+pub returns-then-answer-lt8 : goal.returns-then-answer-lt8
+returns-then-answer-lt8 c = not_served _ _ _ c.if-answer-lt8.true
+
+pub returns : goal.returns
+returns c = served _ _ _ _ _ _ _ _ c.if-answer-lt8.false c.judge_shelf-w.ensures c.give_check.ensures

@@ -1,0 +1,16 @@
+-- `table::read_table` meets its contract. Assumes nothing.
+use mathlib.Core.Path.{sym, ap, ◌∙◌}
+use Rattle.table.specs.Read.{table_read, read_or}
+use Rattle.table.proofs.read_table.Goals as goal
+
+pub returns-in_default : goal.returns-in_default
+unfolding table_read
+returns-in_default c =
+    let s = c.args.s.now in
+    rw (c.symbol_count.ensures, c.term_count.ensures, c.step_count.ensures) (ap (read_or s) (sym c.enum_told-1.given.1 ∙ c.check_table-a.ensures))
+
+pub returns : goal.returns
+unfolding table_read
+returns c =
+    let s = c.args.s.now in
+    ap (read_or s) (sym c.a-1.given.1 ∙ c.check_table-a.ensures)

@@ -1,0 +1,9 @@
+-- `table_layout::term_field` meets its contract. Assumes nothing.
+use mathlib.Core.Path.{sym, ap, ◌∙◌}
+use native.Mathlib.Omega.{arith}
+use Rattle.table_layout.proofs.FieldLaws.{term_field_byte}
+use Rattle.base.specs.Bytes.{byte}
+use Rattle.table_layout.proofs.term_field.Goals as goal
+
+pub returns : goal.returns
+returns c = c.byte_at.ensures ∙ ap (byte c.args.s.now) (omega arith) ∙ sym (term_field_byte _ _ _ _)

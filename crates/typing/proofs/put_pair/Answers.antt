@@ -1,0 +1,45 @@
+-- `typing::put_pair` meets its contract. Assumes nothing.
+use mathlib.Core.Path.{◌≡◌, refl, ◌∙◌}
+use mathlib.Core.List.{List}
+use Prim.Native.Nat.{ℕ, ◌+◌, ◌≤◌}
+use native.Mathlib.Omega.{arith}
+use lib.ListN.{length, length-set}
+use Rattle.buffers.proofs.OverLaws.{with_rest, lent_length, rest_kept}
+use Rattle.typing.proofs.WantLaws.{slot_room, pair_put}
+use Rattle.typing.proofs.put_pair.Goals as goal
+
+-- the first type has come back
+module _ (c : goal.After-slice_known-2-1) where
+  abbrev out : List ℕ
+  out = c.args.out.now
+
+  kept : length (with_rest out 4 c.put_slot-n.new.0) ≡ length out
+  kept = rest_kept out 4 c.put_slot-n.new.0 c.put_slot-n.auto.0
+
+  room : c.put_slot-n.result + 1 ≤ length out
+  room = slot_room c.args.work.now out 4 c.requires _ _ _ c.put_slot-n.ensures
+
+pub slice_bounds-put_slot-count : goal.slice_bounds-put_slot-count
+slice_bounds-put_slot-count c = simp length-set (omega arith)
+
+pub slice_bounds-put_slot-start : goal.slice_bounds-put_slot-start
+slice_bounds-put_slot-start c = simp length-set (omega arith)
+
+pub overflow_add-m : goal.overflow_add-m
+overflow_add-m c = omega (arith, room c)
+
+pub slice_bounds-put_slot-count-2 : goal.slice_bounds-put_slot-count-2
+slice_bounds-put_slot-count-2 c = omega (arith, room c, kept c)
+
+pub slice_bounds-put_slot-start-2 : goal.slice_bounds-put_slot-start-2
+slice_bounds-put_slot-start-2 c = omega (arith, room c, kept c)
+
+pub shape_of-out : goal.shape_of-out
+shape_of-out c =
+    let d : tie.After-slice-known2 = c.before in
+    lent_length (d.before.before.put_slot-n.result + 1) (with_rest (out d) 4 d.before.before.put_slot-n.new.0) c.put_slot.new.0 c.put_slot.auto.0 ∙ kept d
+
+pub returns : goal.returns
+returns c =
+    let d : tie.After-slice-known2 = c.before in
+    pair_put _ (out d) _ d.before.before.before.before.before.before.requires _ _ _ d.before.before.put_slot-n.ensures refl (kept d) _ _ _ _ refl c.put_slot.ensures
