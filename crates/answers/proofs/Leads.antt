@@ -33,6 +33,7 @@ ordered_more r rs up l o = rung (λ i j h k. up i j h) (λ x y a f. before rs x 
     before : (rs : List Rung) (x y : Refusal) → LeadsAll r rs → At r x → Fault y rs → Before x y
     before (q ∷ qs) x y (and_one h t) a (here b) = leads_before r q x y h a b
     before (q ∷ qs) x y (and_one h t) a (later f) = before qs x y t a f
+    before [] x y _ a x6 = elim x6 [ ]
 
 -- rungs of higher numbers only
 abbrev pub all_above : ℕ → List Rung → Bool

