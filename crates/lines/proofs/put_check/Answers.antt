@@ -6,7 +6,7 @@ pub returns-then-out-lt71 : goal.returns-then-out-lt71
 returns-then-out-lt71 c = nothing_put _ _ c.if-out-lt71.true
 
 pub returns-in_default : goal.returns-in_default
-returns-in_default c = accepted_put _ c.args.out.now _ _ c.enum_told-1.given.1 c.if-out-lt71.false c.put_text.ensures
+returns-in_default c = accepted_put _ c.args.out.now _ _ c.in_default.is c.if-out-lt71.false c.put_text.ensures
 
 pub returns : goal.returns
-returns c = refused_put _ _ c.args.out.now _ _ c.check-1.given.1 c.put_refusal.ensures
+returns c = refused_put _ _ c.args.out.now _ _ c.in-Refuse.is c.put_refusal.ensures
