@@ -2,7 +2,7 @@
 use Rattle.mirvashol.proofs.give_check.Goals as goal
 
 pub returns-in_default : goal.returns-in_default
-returns-in_default c = rw c.enum_told-1.given.1 c.give.ensures
+returns-in_default c = rw c.in_default.is c.give.ensures
 
 pub returns : goal.returns
-returns c = rw c.check-1.given.1 c.give-2.ensures
+returns c = rw c.in-Refuse.is c.give-2.ensures
