@@ -96,7 +96,7 @@ module _ (c : goal.After-slice_known-3-1) where
 -- ── The needs ──
 
 pub returns-in_default : goal.returns-in_default
-returns-in_default c = passed_on _ _ _ _ _ _ (c.type_slots-a.ensures.typed (search rules)) c.enum_told-in_default-1.given.1
+returns-in_default c = passed_on _ _ _ _ _ _ (c.type_slots-a.ensures.typed (search rules)) c.in_default.is
 
 pub overflow_mul-need : goal.overflow_mul-need
 overflow_mul-need c = omega (arith, few c)
@@ -107,7 +107,7 @@ overflow_add-need c = omega (arith, few c, (slots c).few, c.types_size-at.ensure
 pub returns-in_default-b : goal.returns-in_default-b
 returns-in_default-b c =
     let d : tie.After-types-size = c.before in
-    no_room (list_file (s d)) (s d) (z d) (slots d).Γ (slots d).widest _ (needed d) _ _ c.check_room-b.ensures c.enum_told-in_default-b-1.given.1
+    no_room (list_file (s d)) (s d) (z d) (slots d).Γ (slots d).widest _ (needed d) _ _ c.check_room-b.ensures c.in_default-b.is
 
 pub put_header-requires : goal.put_header-requires
 put_header-requires c = (omega (arith, few (tested c.before)), room_header (fits c.before))

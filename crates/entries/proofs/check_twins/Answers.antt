@@ -3,7 +3,6 @@ use mathlib.Core.Path.{refl, sym, ◌∙◌}
 use Prim.Native.Nat.{◌-◌}
 use native.Mathlib.Omega.{arith}
 use borrow.Author.Rules.{rules}
-use borrow.Author.Tests.{not-true, not-false}
 use Rattle.answers.proofs.Ladder.{rung_found, rung_clean}
 use Rattle.base.proofs.Searched.{first_right}
 use Rattle.entries.specs.Faults.{twin_rung}
@@ -15,10 +14,10 @@ loop-i-init c = (search rules, refl)
 pub returns-then-not-is_alone : goal.returns-then-not-is_alone
 returns-then-not-is_alone c =
     let a = c.args in
-    c.refuse.ensures ∙ rung_found (twin_rung a.s.now a.kind a.file a.base a.count) _ _ c.loop-i.invariant.1 c.loop-i-test.true (sym c.is_alone.ensures ∙ not-true _ c.if-not-is_alone.true) refl
+    c.refuse.ensures ∙ rung_found (twin_rung a.s.now a.kind a.file a.base a.count) _ _ c.loop-i.invariant.1 c.loop-i-test.true (sym c.is_alone.ensures ∙ c.if-not-is_alone.true) refl
 
 pub loop-i-preserved : goal.loop-i-preserved
-loop-i-preserved c = (omega arith, c.loop-i.invariant.1 ∙ first_right _ _ _ c.loop-i-test.true (sym c.is_alone.ensures ∙ not-false _ c.if-not-is_alone.false))
+loop-i-preserved c = (omega arith, c.loop-i.invariant.1 ∙ first_right _ _ _ c.loop-i-test.true (sym c.is_alone.ensures ∙ c.if-not-is_alone.false))
 
 pub returns : goal.returns
 returns c =

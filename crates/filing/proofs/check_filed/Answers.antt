@@ -19,12 +19,12 @@ loop-i-init c =
 pub offset_bounds-slots-slot : goal.offset_bounds-slots-slot
 offset_bounds-slots-slot c =
     let a = c.args in
-    omega (arith, filed_room a.s.now a.kind a.base c.loop-i.slots c.key_at.result _ (sym c.way_of-way.ensures ∙ c.way-1.given.1))
+    omega (arith, filed_room a.s.now a.kind a.base c.loop-i.slots c.key_at.result _ (sym c.way_of-way.ensures ∙ c.in-Free.is))
 
 pub bounds-slots-slot : goal.bounds-slots-slot
 bounds-slots-slot c =
     let a = c.args in
-    filed_room a.s.now a.kind a.base c.loop-i.slots c.key_at.result _ (sym c.way_of-way.ensures ∙ c.way-1.given.1)
+    filed_room a.s.now a.kind a.base c.loop-i.slots c.key_at.result _ (sym c.way_of-way.ensures ∙ c.in-Free.is)
 
 pub shape_of-slots-in-Twin : goal.shape_of-slots-in-Twin
 shape_of-slots-in-Twin c = c.loop-i.invariant.1
@@ -33,7 +33,7 @@ pub returns-in-Twin : goal.returns-in-Twin
 returns-in-Twin c =
     let a = c.args in
     let l = c.loop-i in
-    c.refuse.ensures ∙ rung_found (twin_rung a.s.now a.kind a.file a.base a.count) l.i _ l.invariant.2 c.loop-i-test.true (filed_equal a.s.now a.kind a.base l.slots l.i (slice_bytes a.s.now c.shared_slice_known-1.given) l.invariant.3 (rw c.key_at.ensures at (sym c.way_of-way.ensures ∙ c.enum_told-1.given.1))) refl
+    c.refuse.ensures ∙ rung_found (twin_rung a.s.now a.kind a.file a.base a.count) l.i _ l.invariant.2 c.loop-i-test.true (filed_equal a.s.now a.kind a.base l.slots l.i (slice_bytes a.s.now c.shared_slice_known-1.given) l.invariant.3 (rw c.key_at.ensures at (sym c.way_of-way.ensures ∙ c.in-Twin.is))) refl
 
 pub shape_of-slots-in-Lost : goal.shape_of-slots-in-Lost
 shape_of-slots-in-Lost c = c.loop-i.invariant.1
@@ -45,7 +45,7 @@ pub loop-i-preserved : goal.loop-i-preserved
 loop-i-preserved c =
     let a = c.args in
     let l = c.loop-i in
-    let e = rw c.key_at.ensures at (sym c.way_of-way.ensures ∙ c.way-1.given.1) in
+    let e = rw c.key_at.ensures at (sym c.way_of-way.ensures ∙ c.in-Free.is) in
     (omega arith, simp length-set l.invariant.1, l.invariant.2 ∙ first_right (alone a.s.now a.kind a.base) l.i a.count c.loop-i-test.true (filed_alone a.s.now a.kind a.base l.slots l.i _ l.invariant.3 e), filed_more a.s.now a.kind a.base l.slots l.i _ l.invariant.3 e)
 
 pub shape_of-slots : goal.shape_of-slots

@@ -13,19 +13,19 @@ pub returns-then-slots-slot : goal.returns-then-slots-slot
 returns-then-slots-slot c =
     let a = c.args in
     let l = c.loop-left in
-    sym (way_out (key_of a.s.now a.kind a.base) a.slots.now a.own_val l.left l.key l.slot c.loop-left-test.true c.if-slots-slot.true) ∙ l.invariant
+    sym (way_out (key_of a.s.now a.kind a.base) a.slots.now a.own l.left l.key l.slot c.loop-left-test.true c.if-slots-slot.true) ∙ l.invariant
 
 pub returns-then-held-eq0 : goal.returns-then-held-eq0
 returns-then-held-eq0 c =
     let a = c.args in
     let l = c.loop-left in
-    sym (way_free (key_of a.s.now a.kind a.base) a.slots.now a.own_val l.left l.key l.slot c.loop-left-test.true c.if-slots-slot.false c.if-held-eq0.true) ∙ l.invariant
+    sym (way_free (key_of a.s.now a.kind a.base) a.slots.now a.own l.left l.key l.slot c.loop-left-test.true c.if-slots-slot.false c.if-held-eq0.true) ∙ l.invariant
 
 pub returns-then-key_at-own : goal.returns-then-key_at-own
 returns-then-key_at-own c =
     let a = c.args in
     let l = c.loop-left in
-    sym (way_twin (key_of a.s.now a.kind a.base) a.slots.now a.own_val l.left l.key l.slot c.loop-left-test.true c.if-slots-slot.false c.if-held-eq0.false (sym c.key_at.ensures ∙ c.if-key_at-own.true)) ∙ l.invariant
+    sym (way_twin (key_of a.s.now a.kind a.base) a.slots.now a.own l.left l.key l.slot c.loop-left-test.true c.if-slots-slot.false c.if-held-eq0.false (sym c.key_at.ensures ∙ c.if-key_at-own.true)) ∙ l.invariant
 
 pub overflow_cast-slot : goal.overflow_cast-slot
 overflow_cast-slot c = omega (arith, c.shared_slice_known-in-loop-left-1.given c.loop-left.slot)
@@ -40,11 +40,11 @@ pub loop-left-preserved : goal.loop-left-preserved
 loop-left-preserved c =
     let a = c.args in
     let l = c.loop-left in
-    sym (way_on (key_of a.s.now a.kind a.base) a.slots.now a.own_val l.left l.key l.slot c.loop-left-test.true c.if-slots-slot.false c.if-held-eq0.false (λ e. c.if-key_at-own.false (c.key_at.ensures ∙ e))) ∙ l.invariant
+    sym (way_on (key_of a.s.now a.kind a.base) a.slots.now a.own l.left l.key l.slot c.loop-left-test.true c.if-slots-slot.false c.if-held-eq0.false (λ e. c.if-key_at-own.false (c.key_at.ensures ∙ e))) ∙ l.invariant
 
 pub returns : goal.returns
 returns c =
     let a = c.args in
     let l = c.loop-left in
     let z : l.left ≡ 0 = omega arith in
-    sym (way_end (key_of a.s.now a.kind a.base) a.slots.now a.own_val l.key l.slot) ∙ (rw z at l.invariant)
+    sym (way_end (key_of a.s.now a.kind a.base) a.slots.now a.own l.key l.slot) ∙ (rw z at l.invariant)

@@ -3,10 +3,10 @@ use Rattle.judge_service.proofs.Stages.{is_accepted, is_not_due, is_unfinished}
 use Rattle.judge_service.proofs.check_statements.Goals as goal
 
 pub returns-in-Accepted : goal.returns-in-Accepted
-returns-in-Accepted c = is_accepted _ _ (rw c.enum_told-1.given.1 at c.judge_statements-v.ensures)
+returns-in-Accepted c = is_accepted _ _ (rw c.in-Accepted.is at c.judge_statements-v.ensures)
 
 pub returns-in-NotDue : goal.returns-in-NotDue
-returns-in-NotDue c = is_not_due _ _ _ _ (rw c.v-1.given.1 at c.judge_statements-v.ensures) c.refuse.ensures
+returns-in-NotDue c = is_not_due _ _ _ _ (rw c.in-NotDue.is at c.judge_statements-v.ensures) c.refuse.ensures
 
 pub returns-in-Unfinished : goal.returns-in-Unfinished
-returns-in-Unfinished c = is_unfinished _ _ _ _ (rw c.v-in-Unfinished-1.given.1 at c.judge_statements-v.ensures) c.refuse-in-Unfinished.ensures
+returns-in-Unfinished c = is_unfinished _ _ _ _ (rw c.in-Unfinished.is at c.judge_statements-v.ensures) c.refuse-in-Unfinished.ensures

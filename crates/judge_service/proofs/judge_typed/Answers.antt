@@ -8,10 +8,10 @@ told : (c : goal.After-check_alike-c) → Compared c.args.table.now c.args.work.
 told c = compared _ _ _ _ _ c.free_count.ensures c.check_list-b.ensures _ _ c.symbol_count.ensures (slice_bytes _ c.shared_slice_known-3-1.given) c.enum_told-1.given.1 c.check_alike-c.ensures
 
 pub returns-in_default : goal.returns-in_default
-returns-in_default c = list_stops _ _ _ _ _ c.free_count.ensures c.check_list-b.ensures _ c.enum_told-in_default-1.given.1
+returns-in_default c = list_stops _ _ _ _ _ c.free_count.ensures c.check_list-b.ensures _ c.in_default.is
 
 pub returns-in_default-c : goal.returns-in_default-c
-returns-in_default-c c = types_stop _ _ _ _ (told c.before) _ c.enum_told-in_default-c-1.given.1
+returns-in_default-c c = types_stop _ _ _ _ (told c.before) _ c.in_default-c.is
 
 pub returns : goal.returns
-returns c = verdict_given _ _ _ _ (told c.before) _ c.enum_told-in-Pass-c-1.given.1 c.check_statements.ensures
+returns c = verdict_given _ _ _ _ (told c.before) _ c.in-Pass-c.is c.check_statements.ensures

@@ -10,7 +10,7 @@ pub returns-in_default : goal.returns-in_default
 unfolding Turned
 returns-in_default c =
     let a = c.args in
-    let z = sym (ap found_as c.enum_told-1.given.1) ∙ c.find-f.ensures in
+    let z = sym (ap found_as c.in_default.is) ∙ c.find-f.ensures in
     λ k n e ms u v held m g o.
     let w = o (λ (y : a.kind + 6 ≡ 2). absurd (omega arith)) in
     built_none a.s.now ms u v k e a.p a.q a.kind n w.0 w.1 a.state z

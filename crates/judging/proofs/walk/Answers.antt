@@ -31,7 +31,7 @@ returns-in_default c =
     let y = (list_passes a.list.now (free_count a.table.now)).0 p in
     let g = n.invariant.3 e y h in
     let r = readable a.list.now _ n.i n.registers y k (rw h.count at n.invariant.2) in
-    going_stop a.table.now a.list.now _ _ e n.registers n.state n.i k g _ c.statements_at-base.ensures r _ c.take_turn-t.ensures c.enum_told-1.given.1
+    going_stop a.table.now a.list.now _ _ e n.registers n.state n.i k g _ c.statements_at-base.ensures r _ c.take_turn-t.ensures c.in_default.is
 
 pub loop-i-preserved : goal.loop-i-preserved
 loop-i-preserved c =
@@ -45,7 +45,7 @@ loop-i-preserved c =
       λ e p h.
           let g = n.invariant.3 e p h in
           let r = readable a.list.now _ n.i n.registers p k (rw h.count at n.invariant.2) in
-          rw w (going_on a.table.now a.list.now _ _ e n.registers n.state n.i k g _ c.statements_at-base.ensures r _ c.take_turn-t.ensures _ c.t-1.given.1),
+          rw w (going_on a.table.now a.list.now _ _ e n.registers n.state n.i k g _ c.statements_at-base.ensures r _ c.take_turn-t.ensures _ c.in-On.is),
     )
 
 pub returns : goal.returns

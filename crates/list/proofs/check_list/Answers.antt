@@ -5,7 +5,7 @@ use mathlib.Core.List.{[], ◌∷◌}
 use Rattle.list.proofs.check_list.Goals as goal
 
 pub returns-in_default : goal.returns-in_default
-returns-in_default c = layer_stops (type_rungs c.args.s.now) (statement_rung c.args.s.now c.args.free ∷ []) c.check_types-a.ensures c.enum_told-in_default-1.given.1
+returns-in_default c = layer_stops (type_rungs c.args.s.now) (statement_rung c.args.s.now c.args.free ∷ []) c.check_types-a.ensures c.in_default.is
 
 pub returns : goal.returns
-returns c = layer_passes (type_rungs c.args.s.now) (statement_rung c.args.s.now c.args.free ∷ []) c.check_types-a.ensures c.enum_told-1.given.1 c.walk_statements.ensures
+returns c = layer_passes (type_rungs c.args.s.now) (statement_rung c.args.s.now c.args.free ∷ []) c.check_types-a.ensures c.in-Pass.is c.walk_statements.ensures

@@ -3,7 +3,6 @@ use borrow.Author.Rules.{rules}
 use native.Mathlib.Omega.{arith}
 use Rattle.answers.proofs.Ladder.{rung_found, rung_clean}
 use Rattle.base.proofs.Searched.{first_right}
-use borrow.Author.Tests.{not-true, not-false}
 use Rattle.list.specs.Faults.{statement_rung}
 use Rattle.list.proofs.Walks.{given_first, given_more}
 use Rattle.list.specs.Layout.{statement_ok}
@@ -19,7 +18,7 @@ unfolding statement_ok
 returns-then-not-statement_ok c =
     let l = c.loop-i in
     let a = c.args in
-    c.refuse.ensures ∙ rung_found (statement_rung a.s.now a.free) l.i _ (rw (← c.statement_count-n.ensures) l.invariant.3) (rw (← c.statement_count-n.ensures) c.loop-i-test.true) (rw (← l.invariant.2, ← c.statements_at-base.ensures) (sym c.statement_ok.ensures ∙ not-true _ c.if-not-statement_ok.true)) (rw (c.place_of.ensures, c.statements_at-base.ensures))
+    c.refuse.ensures ∙ rung_found (statement_rung a.s.now a.free) l.i _ (rw (← c.statement_count-n.ensures) l.invariant.3) (rw (← c.statement_count-n.ensures) c.loop-i-test.true) (rw (← l.invariant.2, ← c.statements_at-base.ensures) (sym c.statement_ok.ensures ∙ c.if-not-statement_ok.true)) (rw (c.place_of.ensures, c.statements_at-base.ensures))
 
 pub loop-i-preserved : goal.loop-i-preserved
 unfolding statement_ok
@@ -28,7 +27,7 @@ loop-i-preserved c =
       omega arith,
       omega (arith, c.wide-registers.ensures),
       rw (c.wide-registers.ensures, c.gives_at.ensures) (given_more _ _ _ _ _ c.statements_at-base.ensures l.invariant.2),
-      l.invariant.3 ∙ first_right _ _ _ c.loop-i-test.true (rw (← l.invariant.2, ← c.statements_at-base.ensures) (sym c.statement_ok.ensures ∙ not-false _ c.if-not-statement_ok.false)),
+      l.invariant.3 ∙ first_right _ _ _ c.loop-i-test.true (rw (← l.invariant.2, ← c.statements_at-base.ensures) (sym c.statement_ok.ensures ∙ c.if-not-statement_ok.false)),
     )
 
 pub returns : goal.returns

@@ -3,7 +3,6 @@ use borrow.Author.Rules.{rules}
 use native.Mathlib.Omega.{arith}
 use Rattle.answers.proofs.Ladder.{rung_found, rung_clean}
 use Rattle.base.proofs.Searched.{first_right}
-use borrow.Author.Tests.{not-true, not-false}
 use Rattle.list.specs.Faults.{type_rung}
 use Rattle.list.proofs.Walks.{type_at_first, type_at_more}
 use Rattle.list.specs.Layout.{type_ok}
@@ -18,7 +17,7 @@ pub returns-then-not-type_ok : goal.returns-then-not-type_ok
 unfolding type_ok
 returns-then-not-type_ok c =
     let l = c.loop-i in
-    c.refuse.ensures ∙ rung_found (type_rung c.args.s.now) l.i _ (rw (← c.symbol_count-n.ensures) l.invariant.3) (rw (← c.symbol_count-n.ensures) c.loop-i-test.true) (rw (← l.invariant.2) (sym c.type_ok.ensures ∙ not-true _ c.if-not-type_ok.true)) (rw l.invariant.2)
+    c.refuse.ensures ∙ rung_found (type_rung c.args.s.now) l.i _ (rw (← c.symbol_count-n.ensures) l.invariant.3) (rw (← c.symbol_count-n.ensures) c.loop-i-test.true) (rw (← l.invariant.2) (sym c.type_ok.ensures ∙ c.if-not-type_ok.true)) (rw l.invariant.2)
 
 pub loop-i-preserved : goal.loop-i-preserved
 unfolding type_ok
@@ -27,7 +26,7 @@ loop-i-preserved c =
       omega arith,
       omega arith,
       c.past_type-at.ensures.0 ∙ type_at_more _ _ _ l.invariant.2,
-      l.invariant.3 ∙ first_right _ _ _ c.loop-i-test.true (rw (← l.invariant.2) (sym c.type_ok.ensures ∙ not-false _ c.if-not-type_ok.false)),
+      l.invariant.3 ∙ first_right _ _ _ c.loop-i-test.true (rw (← l.invariant.2) (sym c.type_ok.ensures ∙ c.if-not-type_ok.false)),
     )
 
 pub returns : goal.returns

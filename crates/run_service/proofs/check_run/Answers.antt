@@ -36,20 +36,20 @@ module _ (c : goal.After-check_room-d) where
   needed = omega (arith, c.value_count.ensures, c.build_count.ensures)
 
 pub returns-in_default : goal.returns-in_default
-returns-in_default c = judge_stops _ _ _ _ _ _ _ c.judge_list-a.ensures c.enum_told-in_default-1.given.1
+returns-in_default c = judge_stops _ _ _ _ _ _ _ c.judge_list-a.ensures c.in_default.is
 
 pub returns-in_default-b : goal.returns-in_default-b
-returns-in_default-b c = trace_stops _ _ _ _ _ (judged c.before) _ _ c.check_trace-b.ensures c.enum_told-in_default-b-1.given.1
+returns-in_default-b c = trace_stops _ _ _ _ _ (judged c.before) _ _ c.check_trace-b.ensures c.in_default-b.is
 
 pub returns-in_default-c : goal.returns-in_default-c
-returns-in_default-c c = starts_stop _ _ _ _ _ _ _ (tested c.before) c.enum_told-in_default-c-1.given.1
+returns-in_default-c c = starts_stop _ _ _ _ _ _ _ (tested c.before) c.in_default-c.is
 
 pub returns-in_default-d : goal.returns-in_default-d
 returns-in_default-d c =
     let e : tie.After-check-room = c.before in
-    values_stop _ _ _ _ _ (is-sound e) _ _ _ (needed e) e.check_room-d.ensures c.enum_told-in_default-d-1.given.1
+    values_stop _ _ _ _ _ (is-sound e) _ _ _ (needed e) e.check_room-d.ensures c.in_default-d.is
 
 pub returns : goal.returns
 returns c =
     let e : tie.After-check-room = c.before in
-    messages_left _ _ _ _ _ (is-sound e) (rw (needed e) at (room_left _ _ _ e.check_room-d.ensures c.enum_told-in-Pass-d-1.given.1)) _ _ (omega (arith, c.message_count.ensures)) c.check_room.ensures
+    messages_left _ _ _ _ _ (is-sound e) (rw (needed e) at (room_left _ _ _ e.check_room-d.ensures c.in-Pass-d.is)) _ _ (omega (arith, c.message_count.ensures)) c.check_room.ensures

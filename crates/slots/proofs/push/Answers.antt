@@ -2,7 +2,6 @@
 use mathlib.Core.Path.{refl, ◌∙◌}
 use Prim.Native.Nat.{◌-◌}
 use native.Mathlib.Omega.{arith}
-use borrow.Author.Tests.{not-true, not-false}
 use Rattle.slots.proofs.PushLaws.{walk_start, walk_done, walk_past, walk_message, walk_apart, walk_met, walk_not_pair, walk_full, walk_pair, walk_not_seal, walk_seal}
 use Rattle.slots.proofs.push.Goals as goal
 
@@ -22,13 +21,13 @@ pub loop-d-preserved-then-b-eq0 : goal.loop-d-preserved-then-b-eq0
 loop-d-preserved-then-b-eq0 c = (c.loop-d.invariant.0, omega (arith, c.taken-d.ensures.1, c.loop-d.invariant.1), rw c.taken-d.ensures.0 (walk_message _ _ _ _ _ _ _ _ _ c.loop-d-test.true c.loop-d.invariant.2 c.if-ty-at.false _ c.if-b-eq0.true c.past-at.ensures))
 
 pub returns-then-not-slot_meet : goal.returns-then-not-slot_meet
-returns-then-not-slot_meet c = walk_apart _ _ _ _ _ _ _ _ _ c.loop-d-test.true c.loop-d.invariant.2 c.if-ty-at.false c.if-b-eq0.false _ _ c.term_code-kind.ensures c.term_part-i.ensures c.if-kind-eq0.true _ _ (not-true _ c.if-not-slot_meet.true) c.slot_meet.ensures
+returns-then-not-slot_meet c = walk_apart _ _ _ _ _ _ _ _ _ c.loop-d-test.true c.loop-d.invariant.2 c.if-ty-at.false c.if-b-eq0.false _ _ c.term_code-kind.ensures c.term_part-i.ensures c.if-kind-eq0.true _ _ (c.if-not-slot_meet.true) c.slot_meet.ensures
 
 pub loop-d-smaller-then-kind-eq0 : goal.loop-d-smaller-then-kind-eq0
 loop-d-smaller-then-kind-eq0 c = omega (arith, c.past-at-then-kind-eq0.ensures.on, c.if-ty-at.false)
 
 pub loop-d-preserved-then-kind-eq0 : goal.loop-d-preserved-then-kind-eq0
-loop-d-preserved-then-kind-eq0 c = (c.slot_meet.auto.0 ∙ c.loop-d.invariant.0, omega (arith, c.taken-d-then-kind-eq0.ensures.1, c.loop-d.invariant.1), rw c.taken-d-then-kind-eq0.ensures.0 (walk_met _ _ _ _ _ _ _ _ _ c.loop-d-test.true c.loop-d.invariant.2 c.if-ty-at.false c.if-b-eq0.false _ _ c.term_code-kind.ensures c.term_part-i.ensures c.if-kind-eq0.true _ _ _ (not-false _ c.if-not-slot_meet.false) c.slot_meet.ensures c.past-at-then-kind-eq0.ensures))
+loop-d-preserved-then-kind-eq0 c = (c.slot_meet.auto.0 ∙ c.loop-d.invariant.0, omega (arith, c.taken-d-then-kind-eq0.ensures.1, c.loop-d.invariant.1), rw c.taken-d-then-kind-eq0.ensures.0 (walk_met _ _ _ _ _ _ _ _ _ c.loop-d-test.true c.loop-d.invariant.2 c.if-ty-at.false c.if-b-eq0.false _ _ c.term_code-kind.ensures c.term_part-i.ensures c.if-kind-eq0.true _ _ _ (c.if-not-slot_meet.false) c.slot_meet.ensures c.past-at-then-kind-eq0.ensures))
 
 pub shape_of-work-then-b-ne4 : goal.shape_of-work-then-b-ne4
 shape_of-work-then-b-ne4 c = c.loop-d.invariant.0

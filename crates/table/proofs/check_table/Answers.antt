@@ -9,24 +9,24 @@ use Rattle.table.proofs.check_table.Goals as goal
 pub returns-in_default : goal.returns-in_default
 returns-in_default c =
     let s = c.args.s.now in
-    layer_stops (frame_rungs s) (entry_rungs s ++ (term_rungs s ++ bind_rungs s)) c.check_frame-a.ensures c.enum_told-in_default-1.given.1
+    layer_stops (frame_rungs s) (entry_rungs s ++ (term_rungs s ++ bind_rungs s)) c.check_frame-a.ensures c.in_default.is
 
 pub returns-in_default-b : goal.returns-in_default-b
 returns-in_default-b c =
     let s = c.args.s.now in
-    layer_passes (frame_rungs s) (entry_rungs s ++ (term_rungs s ++ bind_rungs s)) c.check_frame-a.ensures c.enum_told-1.given.1
-    (layer_stops (entry_rungs s) (term_rungs s ++ bind_rungs s) c.check_entries-b.ensures c.enum_told-in_default-b-1.given.1)
+    layer_passes (frame_rungs s) (entry_rungs s ++ (term_rungs s ++ bind_rungs s)) c.check_frame-a.ensures c.in-Pass.is
+    (layer_stops (entry_rungs s) (term_rungs s ++ bind_rungs s) c.check_entries-b.ensures c.in_default-b.is)
 
 pub returns-in_default-c : goal.returns-in_default-c
 returns-in_default-c c =
     let s = c.args.s.now in
-    layer_passes (frame_rungs s) (entry_rungs s ++ (term_rungs s ++ bind_rungs s)) c.check_frame-a.ensures c.enum_told-1.given.1
-    (layer_passes (entry_rungs s) (term_rungs s ++ bind_rungs s) c.check_entries-b.ensures c.enum_told-in-Pass-b-1.given.1
-    (layer_stops (term_rungs s) (bind_rungs s) c.check_terms-c.ensures c.enum_told-in_default-c-1.given.1))
+    layer_passes (frame_rungs s) (entry_rungs s ++ (term_rungs s ++ bind_rungs s)) c.check_frame-a.ensures c.in-Pass.is
+    (layer_passes (entry_rungs s) (term_rungs s ++ bind_rungs s) c.check_entries-b.ensures c.in-Pass-b.is
+    (layer_stops (term_rungs s) (bind_rungs s) c.check_terms-c.ensures c.in_default-c.is))
 
 pub returns : goal.returns
 returns c =
     let s = c.args.s.now in
-    layer_passes (frame_rungs s) (entry_rungs s ++ (term_rungs s ++ bind_rungs s)) c.check_frame-a.ensures c.enum_told-1.given.1
-    (layer_passes (entry_rungs s) (term_rungs s ++ bind_rungs s) c.check_entries-b.ensures c.enum_told-in-Pass-b-1.given.1
-    (layer_passes (term_rungs s) (bind_rungs s) c.check_terms-c.ensures c.enum_told-in-Pass-c-1.given.1 c.check_binding.ensures))
+    layer_passes (frame_rungs s) (entry_rungs s ++ (term_rungs s ++ bind_rungs s)) c.check_frame-a.ensures c.in-Pass.is
+    (layer_passes (entry_rungs s) (term_rungs s ++ bind_rungs s) c.check_entries-b.ensures c.in-Pass-b.is
+    (layer_passes (term_rungs s) (bind_rungs s) c.check_terms-c.ensures c.in-Pass-c.is c.check_binding.ensures))

@@ -7,10 +7,10 @@ pub returns-in_default : goal.returns-in_default
 unfolding table_read
 returns-in_default c =
     let s = c.args.s.now in
-    rw (c.symbol_count.ensures, c.term_count.ensures, c.step_count.ensures) (ap (read_or s) (sym c.enum_told-1.given.1 ∙ c.check_table-a.ensures))
+    rw (c.symbol_count.ensures, c.term_count.ensures, c.step_count.ensures) (ap (read_or s) (sym c.in_default.is ∙ c.check_table-a.ensures))
 
 pub returns : goal.returns
 unfolding table_read
 returns c =
     let s = c.args.s.now in
-    ap (read_or s) (sym c.a-1.given.1 ∙ c.check_table-a.ensures)
+    ap (read_or s) (sym c.in-Refuse.is ∙ c.check_table-a.ensures)

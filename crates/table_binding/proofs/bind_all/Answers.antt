@@ -3,7 +3,6 @@ use mathlib.Core.Path.{◌≡◌, refl, sym, ◌∙◌}
 use Prim.Native.Nat.{◌-◌}
 use native.Mathlib.Omega.{arith}
 use borrow.Author.Rules.{rules}
-use borrow.Author.Tests.{not-true, not-false}
 use Rattle.table_layout.specs.Layout.{steps}
 use Rattle.base.proofs.Searched.{first_right}
 use Rattle.answers.proofs.Ladder.{rung_found, rung_clean}
@@ -20,14 +19,14 @@ binds_new-requires c = c.loop-k.invariant.2
 pub returns-then-not-binds_new : goal.returns-then-not-binds_new
 returns-then-not-binds_new c =
     let n = c.step_count-n.ensures in
-    let e = c.refuse.ensures ∙ rung_found (bind_rung c.args.s.now) _ _ (rw n at c.loop-k.invariant.1) (rw n at c.loop-k-test.true) (sym c.binds_new.ensures ∙ not-true _ c.if-not-binds_new.true) (rw c.wide.ensures) in
-    (e, rw c.refuse.ensures tt)
+    let e = c.refuse.ensures ∙ rung_found (bind_rung c.args.s.now) _ _ (rw n at c.loop-k.invariant.1) (rw n at c.loop-k-test.true) (sym c.binds_new.ensures ∙ c.if-not-binds_new.true) (rw c.wide.ensures) in
+    record { number = e; noted = rw c.refuse.ensures tt }
 
 pub loop-k-preserved : goal.loop-k-preserved
-loop-k-preserved c = (omega arith, c.loop-k.invariant.1 ∙ first_right _ _ _ c.loop-k-test.true (sym c.binds_new.ensures ∙ not-false _ c.if-not-binds_new.false), binders_more _ _ _ _ c.loop-k.invariant.2 c.bind_step.ensures)
+loop-k-preserved c = (omega arith, c.loop-k.invariant.1 ∙ first_right _ _ _ c.loop-k-test.true (sym c.binds_new.ensures ∙ c.if-not-binds_new.false), binders_more _ _ _ _ c.loop-k.invariant.2 c.bind_step.ensures)
 
 pub returns : goal.returns
 returns c =
     let n = c.step_count-n.ensures in
     let q : c.loop-k.k ≡ steps c.args.s.now = omega (arith, n) in
-    (rung_clean (bind_rung c.args.s.now) _ (rw n at c.loop-k.invariant.1) (rw n at c.loop-k-test.false), rw q at c.loop-k.invariant.2)
+    record { number = rung_clean (bind_rung c.args.s.now) _ (rw n at c.loop-k.invariant.1) (rw n at c.loop-k-test.false); noted = rw q at c.loop-k.invariant.2 }

@@ -13,11 +13,11 @@ bind_all-a-requires c = refl
 pub returns-in_default : goal.returns-in_default
 returns-in_default c =
     let s = c.args.s.now in
-    layer_stops (bind_rung s ∷ []) (scope_rung s ∷ []) c.bind_all-a.ensures.0 c.enum_told-in_default-1.given.1
+    layer_stops (bind_rung s ∷ []) (scope_rung s ∷ []) c.bind_all-a.ensures.number c.in_default.is
 
 pub all_latest-requires : goal.all_latest-requires
 unfolding blank
-all_latest-requires c = (rw c.enum_told-1.given.1 at c.bind_all-a.ensures.1, refl)
+all_latest-requires c = (rw c.in-Pass.is at c.bind_all-a.ensures.noted, refl)
 
 pub check_scope-requires : goal.check_scope-requires
 check_scope-requires c = c.all_latest.ensures
@@ -25,4 +25,4 @@ check_scope-requires c = c.all_latest.ensures
 pub returns : goal.returns
 returns c =
     let s = c.args.s.now in
-    layer_passes (bind_rung s ∷ []) (scope_rung s ∷ []) c.bind_all-a.ensures.0 c.enum_told-1.given.1 c.check_scope.ensures
+    layer_passes (bind_rung s ∷ []) (scope_rung s ∷ []) c.bind_all-a.ensures.number c.in-Pass.is c.check_scope.ensures

@@ -3,7 +3,6 @@ use mathlib.Core.Path.{refl, sym, ◌∙◌}
 use Prim.Native.Nat.{◌-◌}
 use native.Mathlib.Omega.{arith}
 use borrow.Author.Rules.{rules}
-use borrow.Author.Tests.{not-true, not-false}
 use Rattle.base.proofs.Searched.{first_right}
 use Rattle.answers.proofs.Ladder.{rung_found, rung_clean}
 use Rattle.table_binding.specs.Binding.{scope_rung}
@@ -18,10 +17,10 @@ in_scope-requires c = c.requires
 pub returns-then-not-in_scope : goal.returns-then-not-in_scope
 returns-then-not-in_scope c =
     let n = c.step_count-n.ensures in
-    c.refuse.ensures ∙ rung_found (scope_rung c.args.s.now) _ _ (rw n at c.loop-k.invariant.1) (rw n at c.loop-k-test.true) (sym c.in_scope.ensures ∙ not-true _ c.if-not-in_scope.true) (rw c.wide.ensures)
+    c.refuse.ensures ∙ rung_found (scope_rung c.args.s.now) _ _ (rw n at c.loop-k.invariant.1) (rw n at c.loop-k-test.true) (sym c.in_scope.ensures ∙ c.if-not-in_scope.true) (rw c.wide.ensures)
 
 pub loop-k-preserved : goal.loop-k-preserved
-loop-k-preserved c = (omega arith, c.loop-k.invariant.1 ∙ first_right _ _ _ c.loop-k-test.true (sym c.in_scope.ensures ∙ not-false _ c.if-not-in_scope.false))
+loop-k-preserved c = (omega arith, c.loop-k.invariant.1 ∙ first_right _ _ _ c.loop-k-test.true (sym c.in_scope.ensures ∙ c.if-not-in_scope.false))
 
 pub returns : goal.returns
 returns c = rung_clean (scope_rung c.args.s.now) _ (rw c.step_count-n.ensures at c.loop-k.invariant.1) (rw c.step_count-n.ensures at c.loop-k-test.false)

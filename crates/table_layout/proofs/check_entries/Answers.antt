@@ -7,16 +7,16 @@ use Rattle.table_layout.proofs.check_entries.Goals as goal
 pub returns-in_default : goal.returns-in_default
 returns-in_default c =
     let s = c.args.s.now in
-    layer_stops (symbol_rung s ∷ []) (term_rung s ∷ step_rung s ∷ []) c.check_symbols-a.ensures c.enum_told-in_default-1.given.1
+    layer_stops (symbol_rung s ∷ []) (term_rung s ∷ step_rung s ∷ []) c.check_symbols-a.ensures c.in_default.is
 
 pub returns-in_default-b : goal.returns-in_default-b
 returns-in_default-b c =
     let s = c.args.s.now in
-    layer_passes (symbol_rung s ∷ []) (term_rung s ∷ step_rung s ∷ []) c.check_symbols-a.ensures c.enum_told-1.given.1
-    (layer_stops (term_rung s ∷ []) (step_rung s ∷ []) c.check_terms-b.ensures c.enum_told-in_default-b-1.given.1)
+    layer_passes (symbol_rung s ∷ []) (term_rung s ∷ step_rung s ∷ []) c.check_symbols-a.ensures c.in-Pass.is
+    (layer_stops (term_rung s ∷ []) (step_rung s ∷ []) c.check_terms-b.ensures c.in_default-b.is)
 
 pub returns : goal.returns
 returns c =
     let s = c.args.s.now in
-    layer_passes (symbol_rung s ∷ []) (term_rung s ∷ step_rung s ∷ []) c.check_symbols-a.ensures c.enum_told-1.given.1
-    (layer_passes (term_rung s ∷ []) (step_rung s ∷ []) c.check_terms-b.ensures c.enum_told-in-Pass-b-1.given.1 c.check_steps.ensures)
+    layer_passes (symbol_rung s ∷ []) (term_rung s ∷ step_rung s ∷ []) c.check_symbols-a.ensures c.in-Pass.is
+    (layer_passes (term_rung s ∷ []) (step_rung s ∷ []) c.check_terms-b.ensures c.in-Pass-b.is c.check_steps.ensures)

@@ -9,9 +9,9 @@ use Rattle.table_naming.proofs.check_terms.Goals as goal
 pub returns-in_default : goal.returns-in_default
 returns-in_default c =
     let s = c.args.s.now in
-    layer_stops (twin_rung s 0 0 (terms_at s) (terms s) ∷ []) (idle_rung s ∷ []) (rw (c.terms_at.ensures, c.term_count-count.ensures) at c.check_unlike-a.ensures) c.enum_told-in_default-1.given.1
+    layer_stops (twin_rung s 0 0 (terms_at s) (terms s) ∷ []) (idle_rung s ∷ []) (rw (c.terms_at.ensures, c.term_count-count.ensures) at c.check_unlike-a.ensures) c.in_default.is
 
 pub returns : goal.returns
 returns c =
     let s = c.args.s.now in
-    layer_passes (twin_rung s 0 0 (terms_at s) (terms s) ∷ []) (idle_rung s ∷ []) (rw (c.terms_at.ensures, c.term_count-count.ensures) at c.check_unlike-a.ensures) c.enum_told-1.given.1 c.check_named.ensures
+    layer_passes (twin_rung s 0 0 (terms_at s) (terms s) ∷ []) (idle_rung s ∷ []) (rw (c.terms_at.ensures, c.term_count-count.ensures) at c.check_unlike-a.ensures) c.in-Pass.is c.check_named.ensures

@@ -8,9 +8,9 @@ use Rattle.trace.proofs.check_entries.Goals as goal
 pub returns-in_default : goal.returns-in_default
 returns-in_default c =
     let s = c.args.s.now in
-    layer_stops (value_rung s ∷ []) (held_rungs s) (c.check_nodes-a.ensures ∙ rw (c.word_at.ensures, c.value_count.ensures)) c.enum_told-in_default-1.given.1
+    layer_stops (value_rung s ∷ []) (held_rungs s) (c.check_nodes-a.ensures ∙ rw (c.word_at.ensures, c.value_count.ensures)) c.in_default.is
 
 pub returns : goal.returns
 returns c =
     let s = c.args.s.now in
-    layer_passes (value_rung s ∷ []) (held_rungs s) (c.check_nodes-a.ensures ∙ rw (c.word_at.ensures, c.value_count.ensures)) c.enum_told-1.given.1 c.check_held.ensures
+    layer_passes (value_rung s ∷ []) (held_rungs s) (c.check_nodes-a.ensures ∙ rw (c.word_at.ensures, c.value_count.ensures)) c.in-Pass.is c.check_held.ensures

@@ -8,9 +8,9 @@ use Rattle.trace.proofs.check_held.Goals as goal
 pub returns-in_default : goal.returns-in_default
 returns-in_default c =
     let s = c.args.s.now in
-    layer_stops (start_rung s ∷ []) (supply_rung s ∷ []) (c.check_indexes-a.ensures ∙ rw (c.value_count-n.ensures, c.starts_at.ensures, c.starting_count.ensures)) c.enum_told-in_default-1.given.1
+    layer_stops (start_rung s ∷ []) (supply_rung s ∷ []) (c.check_indexes-a.ensures ∙ rw (c.value_count-n.ensures, c.starts_at.ensures, c.starting_count.ensures)) c.in_default.is
 
 pub returns : goal.returns
 returns c =
     let s = c.args.s.now in
-    layer_passes (start_rung s ∷ []) (supply_rung s ∷ []) (c.check_indexes-a.ensures ∙ rw (c.value_count-n.ensures, c.starts_at.ensures, c.starting_count.ensures)) c.enum_told-1.given.1 (c.check_indexes.ensures ∙ rw (c.value_count-n.ensures, c.supplies_at.ensures, c.supply_count.ensures))
+    layer_passes (start_rung s ∷ []) (supply_rung s ∷ []) (c.check_indexes-a.ensures ∙ rw (c.value_count-n.ensures, c.starts_at.ensures, c.starting_count.ensures)) c.in-Pass.is (c.check_indexes.ensures ∙ rw (c.value_count-n.ensures, c.supplies_at.ensures, c.supply_count.ensures))

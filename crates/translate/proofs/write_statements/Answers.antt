@@ -34,7 +34,7 @@ bytes_counted : (c : goal.After-statement_count) → length (bytes c) ≡ 4 * c.
 bytes_counted c = omega (arith, counted c, bytes_length (translation signature1 halves (table_of (table c))))
 
 pub returns-in_default : goal.returns-in_default
-returns-in_default c = rw (sym c.check_table-a.ensures ∙ c.enum_told-in_default-1.given.1) refl
+returns-in_default c = rw (sym c.check_table-a.ensures ∙ c.in_default.is) refl
 
 pub overflow_mul-statement_count : goal.overflow_mul-statement_count
 overflow_mul-statement_count c = omega (arith, counted c, (all_fits (table c) (passed c)).0)

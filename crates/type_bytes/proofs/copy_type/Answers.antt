@@ -11,7 +11,7 @@ ended : (c : goal.In-At) → EndIs codes1 c.args.s.now c.args.p (some c.e-1.give
 ended c = rw c.e-1.given.1 at c.type_end.ensures
 
 pub returns-in_default : goal.returns-in_default
-returns-in_default c = copied_none _ _ _ (rw c.enum_told-1.given.1 at c.type_end.ensures)
+returns-in_default c = copied_none _ _ _ (rw c.in_default.is at c.type_end.ensures)
 
 pub overflow_sub-n : goal.overflow_sub-n
 overflow_sub-n c = omega (arith, (ended c).1)

@@ -3,7 +3,7 @@ use Rattle.type_bytes.proofs.EndLaws.{past_none, past_end}
 use Rattle.type_bytes.proofs.past.Goals as goal
 
 pub returns-in_default : goal.returns-in_default
-returns-in_default c = past_none _ _ (rw c.enum_told-1.given.1 at c.type_end.ensures)
+returns-in_default c = past_none _ _ (rw c.in_default.is at c.type_end.ensures)
 
 pub returns : goal.returns
-returns c = past_end _ _ _ (rw c.e-1.given.1 at c.type_end.ensures)
+returns c = past_end _ _ _ (rw c.in-At.is at c.type_end.ensures)

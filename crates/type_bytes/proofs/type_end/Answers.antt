@@ -3,7 +3,6 @@ use Prim.Native.Nat.{◌-◌}
 use native.Mathlib.Omega.{arith}
 use borrow.Author.Rules.{rules}
 use Rattle.type_bytes.proofs.CountLaws.{wants_start, wants_none, wants_past, wants_unknown, wants_whole, wants_pair, wants_cipher}
-use Rattle.std.proofs.Common.{◌<◌}
 use Rattle.type_bytes.proofs.type_end.Goals as goal
 
 pub loop-wanted-init : goal.loop-wanted-init
@@ -19,7 +18,7 @@ pub loop-wanted-preserved-in-5 : goal.loop-wanted-preserved-in-5
 loop-wanted-preserved-in-5 c = (search rules, wants_cipher _ _ _ _ c.loop-wanted-test.true c.loop-wanted.invariant.1 c.if-s-at.false c.in-5.is)
 
 pub loop-wanted-preserved : goal.loop-wanted-preserved
-loop-wanted-preserved c = (search rules, wants_whole _ _ _ _ c.loop-wanted-test.true c.loop-wanted.invariant.1 c.if-s-at.false (let o : c.args.b < 4 = omega arith in o))
+loop-wanted-preserved c = (search rules, wants_whole _ _ _ _ c.loop-wanted-test.true c.loop-wanted.invariant.1 c.if-s-at.false (omega arith))
 
 pub returns-in-6-to-255 : goal.returns-in-6-to-255
 returns-in-6-to-255 c = wants_unknown _ _ _ _ c.loop-wanted-test.true c.loop-wanted.invariant.1 c.if-s-at.false (omega arith)

@@ -13,7 +13,7 @@ pub returns-then-work-e : goal.returns-then-work-e
 returns-then-work-e c = type_past _ _ _ _ c.slot_at-at.ensures refl c.if-work-e.true
 
 pub returns-in_default : goal.returns-in_default
-returns-in_default c = type_missing _ _ _ _ c.slot_at-at.ensures refl (rw c.enum_told-1.given.1 at c.type_end.ensures)
+returns-in_default c = type_missing _ _ _ _ c.slot_at-at.ensures refl (rw c.in_default.is at c.type_end.ensures)
 
 pub overflow_add-end : goal.overflow_add-end
 overflow_add-end c = omega (arith, inside c)
@@ -22,4 +22,4 @@ pub slice_bounds-result-end-2 : goal.slice_bounds-result-end-2
 slice_bounds-result-end-2 c = omega (arith, inside c, c.if-work-e.false)
 
 pub returns : goal.returns
-returns c = type_is _ _ _ _ c.slot_at-at.ensures refl _ (rw c.n-1.given.1 at c.type_end.ensures) _ refl
+returns c = type_is _ _ _ _ c.slot_at-at.ensures refl _ (rw c.in-At.is at c.type_end.ensures) _ refl

@@ -20,18 +20,18 @@ module _ (c : goal.After-types_size-need) where
   counted = types_counted _ _ _ slots _ c.types_size-need.ensures
 
 pub returns-in_default : goal.returns-in_default
-returns-in_default c = passed_on _ _ _ _ _ _ (c.type_slots-a.ensures.typed (search rules)) c.enum_told-in_default-1.given.1
+returns-in_default c = passed_on _ _ _ _ _ _ (c.type_slots-a.ensures.typed (search rules)) c.in_default.is
 
 pub returns-in_default-b : goal.returns-in_default-b
 returns-in_default-b c =
     let d : tie.After-types-size = c.before in
-    no_room (types_file (s d)) (s d) _ (slots d).Γ (slots d).widest _ (counted d) _ _ c.check_room-b.ensures c.enum_told-in_default-b-1.given.1
+    no_room (types_file (s d)) (s d) _ (slots d).Γ (slots d).widest _ (counted d) _ _ c.check_room-b.ensures c.in_default-b.is
 
 pub returns : goal.returns
 returns c =
     let d : tie.After-types-size = c.before in
     let z : List ℕ = c.args.out.now in
     let r = c.check_room-b.ensures in
-    let e = c.enum_told-in-Pass-b-1.given.1 in
+    let e = c.in-Pass-b.is in
     let f = room_for (types_file (s d)) (s d) z (slots d).Γ (slots d).widest _ (counted d) _ r e in
     all_written (types_file (s d)) (s d) z (slots d).Γ (slots d).widest _ (counted d) _ _ r e (types_written _ _ _ (slots d) _ _ c.put_types.ensures f)

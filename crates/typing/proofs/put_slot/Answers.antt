@@ -7,7 +7,7 @@ pub returns-then-work-e : goal.returns-then-work-e
 returns-then-work-e c = slot_past _ _ _ _ _ c.slot_at-at.ensures refl c.if-work-e.true
 
 pub returns-in_default : goal.returns-in_default
-returns-in_default c = slot_apart _ _ _ _ _ c.slot_at-at.ensures refl _ (rw c.enum_told-1.given.1 at c.copy_type.ensures)
+returns-in_default c = slot_apart _ _ _ _ _ c.slot_at-at.ensures refl _ (rw c.in_default.is at c.copy_type.ensures)
 
 pub returns : goal.returns
-returns c = slot_whole _ _ _ _ _ c.slot_at-at.ensures refl _ _ (rw c.n-1.given.1 at c.copy_type.ensures)
+returns c = slot_whole _ _ _ _ _ c.slot_at-at.ensures refl _ _ (rw c.in-Met.is at c.copy_type.ensures)

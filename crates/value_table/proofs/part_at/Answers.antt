@@ -11,8 +11,8 @@ overflow_cast-result c = let a = c.args in
 
 pub returns-then-is_known : goal.returns-then-is_known
 unfolding part_at
-returns-then-is_known c = rw (sym c.is_Known.ensures ∙ c.if-is_known.true) c.field_at.ensures
+returns-then-is_known c = rw (sym c.is_known.ensures ∙ c.if-is_known.true) c.field_at.ensures
 
 pub returns : goal.returns
 unfolding part_at
-returns c = rw (sym c.is_Known.ensures ∙ c.if-is_known.false)
+returns c = rw (sym c.is_known.ensures ∙ c.if-is_known.false)
