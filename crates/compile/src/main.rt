@@ -1,10 +1,11 @@
 // The compile program: a role table on standard input, its list or one refusal line on standard output.
 #![tactic(auto)]
 
+ghost use Rattle.std.specs.Prelude.{◌≤◌, IfOk, length};
 ghost use Rattle.compile.specs.Printed.{ListPrinted};
 
 use answers::Check;
-use libc::{STDIN_FILENO, STDOUT_FILENO};
+use std::io::{self, Read, Write};
 
 // What is written for a table, at the start of a buffer of 16,384 bytes, and its length.
 fn print(table: &[u8], out: &mut [u8]) -> usize
@@ -18,11 +19,26 @@ fn print(table: &[u8], out: &mut [u8]) -> usize
     lines::put_refusal(out, x)
 }
 
+// Reads until the buffer is full or the input ends, and answers how many bytes there are.
+fn read_full<R: Read>(from: &mut R, bytes: &mut [u8]) -> io::Result<usize>
+    ensures { IfOk result (λ n. n ≤ length bytes.new) }
+{
+    let mut done = 0;
+    while done < bytes.len() {
+        let n = from.read(&mut bytes[done..])?;
+        if n == 0 {
+            break;
+        }
+        done += n;
+    }
+    Ok(done)
+}
+
 // One byte past the longest table is read, and no more: a longer file has number 4 at the latest, whatever follows.
-fn main() {
+fn main(rt: HostRuntime) -> io::Result<()> {
     let mut table = [0u8; 809];
-    let n = io::read_full(STDIN_FILENO, &mut table);
+    let n = read_full(&mut rt.stdin(), &mut table)?;
     let mut out = [0u8; 16384];
     let k = print(&table[..n], &mut out);
-    io::write_all(STDOUT_FILENO, &out[..k]);
+    rt.stdout().write_all(&out[..k])
 }

@@ -7,12 +7,17 @@ use std::path::{Path, PathBuf};
 
 use crate::tests::{Said, Tests, PLAIN_PATH};
 
-/// A stand-in: `rt` that proves two crates at once.
+/// A stand-in: `rt lib` that proves two crates at once.
 const RT: &str = "#!/bin/sh
 case $1 in
-check) echo 'rt: base proved (3 s)'; echo 'rt: noise'; echo 'rt: mirvashol proved (5 s)'; [ ! -e fail ] ;;
-staticlib) mkdir -p target/staticlib && echo archive >target/staticlib/libmirvashol.a ;;
-doc) echo /opt/kit/docs/guide ;;
+lib)
+    for crate in base mirvashol; do
+        echo \"crate $crate: modules loaded=0 checked=3\"
+        echo noise
+        echo 'logic=proved functions=1'
+    done
+    [ ! -e ../../fail ] && mkdir -p out && echo archive >out/libmirvashol.a
+    ;;
 esac
 ";
 
@@ -74,7 +79,7 @@ pub fn all(t: &mut Tests) {
     t.check("nothing built and no toolchain", right, &without.seen());
     let right = failing.status == 2 && failing.out.is_empty() && failing.err.contains("mirvashol: not proved") && none;
     t.check("a proof that fails: no program, no answer", right, &failing.seen());
-    let said = "rt: base proved (3 s)\nrt: mirvashol proved (5 s)\n";
+    let said = "mirvashol: proved base\nmirvashol: proved mirvashol\n";
     let right = building.status == 0
         && building.out == list
         && building.err.contains(said)
@@ -108,7 +113,15 @@ pub fn all(t: &mut Tests) {
 
 /// The launcher and its scripts as they are, and the least of a source.
 fn make(t: &Tests, small: &Path) {
-    let folders = ["tools", "stand-ins", "crates/base", "bindings", "cli", "docs"];
+    let folders = [
+        "tools",
+        "stand-ins",
+        "crates/base",
+        "crates/mirvashol",
+        "bindings",
+        "cli",
+        "docs",
+    ];
     for folder in folders {
         fs::create_dir_all(small.join(folder)).expect("a folder");
     }
@@ -126,7 +139,7 @@ fn make(t: &Tests, small: &Path) {
     for file in scripts.chain(files.into_iter().map(PathBuf::from)) {
         fs::copy(t.top.join(&file), small.join(&file)).expect("a file");
     }
-    for (name, text) in [("rt", RT), ("cargo", CARGO), ("uname", "#!/bin/sh\necho x86_64\n")] {
+    for (name, text) in [("rt", RT), ("cargo", CARGO)] {
         let path = small.join("stand-ins").join(name);
         fs::write(&path, text).expect("a stand-in");
         fs::set_permissions(&path, fs::Permissions::from_mode(0o755)).expect("a mode");

@@ -1,7 +1,7 @@
 //! The commands as people type them, through `./mirvashol`: document 01's marked examples, all of examples/, each wrong use, and unkind places: full
 //! devices, closed streams, links, strange names, other users. The last line is `N passed, M failed`; the status is 1 where M is not 0.
 //!
-//! It needs the built program, and target/bin/compile, which `rt check compile` makes.
+//! It needs the built program, and crates/compile/out/compile, which `rt ci` leaves there.
 
 mod answers;
 mod c_programs;

@@ -6,8 +6,8 @@ use Rattle.lines.proofs.put_number.Goals as goal
 
 pub put_text-requires : goal.put_text-requires
 put_text-requires c =
-    omega (arith, few_places _ _ (search rules) c.decimal-k.ensures.1.0, c.decimal-k.ensures.0.1, c.requires)
+    omega (arith, few_places _ _ (search rules) c.decimal-k.ensures.len, c.decimal-k.ensures.in_bounds.1, c.requires)
 
 pub returns : goal.returns
 returns c =
-    record { text = _; decimal = record { places = c.decimal-k.result; fewest = c.decimal-k.ensures.1.0; is = c.decimal-k.ensures.1.1 }; appended = c.put_text.ensures; short = omega (arith, few_places _ _ (search rules) c.decimal-k.ensures.1.0, c.decimal-k.ensures.0.1) }
+    record { text = _; decimal = record { places = c.decimal-k.result; fewest = c.decimal-k.ensures.len; is = c.decimal-k.ensures.digits }; appended = c.put_text.ensures; short = omega (arith, few_places _ _ (search rules) c.decimal-k.ensures.len, c.decimal-k.ensures.in_bounds.1) }
