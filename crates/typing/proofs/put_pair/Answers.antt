@@ -13,8 +13,8 @@ module _ (c : goal.After-slice_known-2-1) where
   abbrev out : List ℕ
   out = c.args.out.now
 
-  kept : length (with_rest out 4 c.put_slot-n.new.0) ≡ length out
-  kept = rest_kept out 4 c.put_slot-n.new.0 c.put_slot-n.auto.0
+  kept : length (with_rest out 4 c.put_slot-n.new.out) ≡ length out
+  kept = rest_kept out 4 c.put_slot-n.new.out c.put_slot-n.auto.out
 
   room : c.put_slot-n.result + 1 ≤ length out
   room = slot_room c.args.work.now out 4 c.requires _ _ _ c.put_slot-n.ensures
