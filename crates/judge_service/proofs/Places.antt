@@ -52,6 +52,7 @@ Within (r ∷ rs) = ((i : ℕ) → i < r.count → Fits (refusal r.number r.file
 fault_within : {x : Refusal} (rs : List Rung) → Within rs → Fault x rs → Fits x
 fault_within (r ∷ rs) (f, w) (here a) = rw a.named (f a.thing a.among)
 fault_within (r ∷ rs) (f, w) (later g) = fault_within rs w g
+fault_within [] _ x4 = elim x4 [ ]
 
 least_within : (rs : List Rung) {c : Check} (x : Refusal) → Within rs → Least rs c → c ≡ Refuse x → Fits x
 least_within rs x w (lowest {x = y} f g) e = let q : y ≡ x = cc in rw q at (fault_within rs w f)
