@@ -5,4 +5,4 @@ use Rattle.slots.proofs.begin.Goals as goal
 
 pub returns : goal.returns
 unfolding stacked
-returns c = (refl, refl)
+returns c = record { result_value = refl; depth = refl }

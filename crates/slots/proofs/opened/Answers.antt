@@ -9,4 +9,4 @@ use Rattle.slots.proofs.opened.Goals as goal
 pub returns : goal.returns
 returns c =
     let l : length c.args.d.pending ≡ 130 = search rules in
-    (one_for_one _ _ _ (search rules) (omega arith), refl)
+    record { result_value = one_for_one _ _ _ (search rules) (omega arith); depth = refl }

@@ -5,4 +5,4 @@ use borrow.Author.Rules.{rules}
 use Rattle.slots.proofs.parted.Goals as goal
 
 pub returns : goal.returns
-returns c = (two_for_one _ _ _ _ (search rules) (search rules), refl)
+returns c = record { result_value = two_for_one _ _ _ _ (search rules) (search rules); depth = refl }

@@ -13,7 +13,7 @@ pub returns-in_default : goal.returns-in_default
 returns-in_default c = met_apart _ _ _ _ _ _ c.slot_at-at.ensures refl c.if-work-e.false _ _ (length-replicate {A = ℕ} 129 0) _ (rw c.in_default.is at c.meet.ensures)
 
 pub slice_bounds-copy-end-2 : goal.slice_bounds-copy-end-2
-slice_bounds-copy-end-2 c = omega (arith, (rw c.in-Met.is at c.meet.ensures).fits, c.meet.auto.0)
+slice_bounds-copy-end-2 c = omega (arith, (rw c.in-Met.is at c.meet.ensures).fits, c.meet.auto.out)
 
 pub returns : goal.returns
-returns c = met_put _ _ _ _ _ _ c.slot_at-at.ensures refl c.if-work-e.false _ _ (length-replicate {A = ℕ} 129 0) _ _ (rw c.in-Met.is at c.meet.ensures) c.copy.ensures.1
+returns c = met_put _ _ _ _ _ _ c.slot_at-at.ensures refl c.if-work-e.false _ _ (length-replicate {A = ℕ} 129 0) _ _ (rw c.in-Met.is at c.meet.ensures) c.copy.ensures.written

@@ -16,7 +16,7 @@ pub slice_bounds-copy-start : goal.slice_bounds-copy-start
 slice_bounds-copy-start c = simp length-set (omega arith)
 
 pub shape_of-out : goal.shape_of-out
-shape_of-out c = rest_kept c.args.out.now _ c.copy.new.0 c.copy.auto.0
+shape_of-out c = rest_kept c.args.out.now _ c.copy.new.out c.copy.auto.out
 
 pub returns : goal.returns
-returns c = put_whole _ c.args.out.now _ _ c.slot_type-t.ensures c.if-out-m.false _ refl _ c.copy.ensures.1
+returns c = put_whole _ c.args.out.now _ _ c.slot_type-t.ensures c.if-out-m.false _ refl _ c.copy.ensures.written

@@ -15,7 +15,7 @@ pub slice_bounds-put_type-start : goal.slice_bounds-put_type-start
 slice_bounds-put_type-start c = omega (arith, c.loop-x.invariant.1.inside, c.loop-x.invariant.1.kept)
 
 pub loop-x-preserved : goal.loop-x-preserved
-loop-x-preserved c = (search rules, reached_more _ _ _ _ _ c.loop-x.invariant.1 c.put_type-at.new.0 _ c.put_type-at.auto.0 c.put_type-at.ensures)
+loop-x-preserved c = (search rules, reached_more _ _ _ _ _ c.loop-x.invariant.1 c.put_type-at.new.out _ c.put_type-at.auto.out c.put_type-at.ensures)
 
 pub shape_of-out : goal.shape_of-out
 shape_of-out c = c.loop-x.invariant.1.kept

@@ -6,8 +6,8 @@ use Rattle.type_lists.proofs.SlotTypes.{type_past, type_missing, type_inside, ty
 use Rattle.type_lists.proofs.slot_type.Goals as goal
 
 -- the type lies inside its slot
-inside : (c : goal.In-At) → c.n-1.given.0.0 ≤ 129
-inside c = type_inside _ _ _ _ c.slot_at-at.ensures refl _ (rw c.n-1.given.1 at c.type_end.ensures)
+inside : (c : goal.In-At) → c.in-At.n ≤ 129
+inside c = type_inside _ _ _ _ c.slot_at-at.ensures refl _ (rw c.in-At.is at c.type_end.ensures)
 
 pub returns-then-work-e : goal.returns-then-work-e
 returns-then-work-e c = type_past _ _ _ _ c.slot_at-at.ensures refl c.if-work-e.true

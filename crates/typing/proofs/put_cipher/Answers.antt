@@ -13,7 +13,7 @@ pub slice_bounds-put_slot-start : goal.slice_bounds-put_slot-start
 slice_bounds-put_slot-start c = simp length-set (omega arith)
 
 pub shape_of-out : goal.shape_of-out
-shape_of-out c = rest_kept c.args.out.now 5 c.put_slot.new.0 c.put_slot.auto.0
+shape_of-out c = rest_kept c.args.out.now 5 c.put_slot.new.out c.put_slot.auto.out
 
 pub returns : goal.returns
 returns c = cipher_put _ c.args.out.now _ c.requires _ _ _ c.put_slot.ensures refl

@@ -13,8 +13,8 @@ module _ (c : goal.After-slice_known-2-1) where
   abbrev out : List ℕ
   out = c.args.out.now
 
-  kept : length (with_rest out 4 c.put_slot-n.new.0) ≡ length out
-  kept = rest_kept out 4 c.put_slot-n.new.0 c.put_slot-n.auto.0
+  kept : length (with_rest out 4 c.put_slot-n.new.out) ≡ length out
+  kept = rest_kept out 4 c.put_slot-n.new.out c.put_slot-n.auto.out
 
   room : c.put_slot-n.result + 1 ≤ length out
   room = slot_room c.args.work.now out 4 c.requires _ _ _ c.put_slot-n.ensures
@@ -36,10 +36,10 @@ slice_bounds-put_slot-start-2 c = omega (arith, room c, kept c)
 
 pub shape_of-out : goal.shape_of-out
 shape_of-out c =
-    let d : tie.After-slice-known2 = c.before in
-    lent_length (d.before.before.put_slot-n.result + 1) (with_rest (out d) 4 d.before.before.put_slot-n.new.0) c.put_slot.new.0 c.put_slot.auto.0 ∙ kept d
+    let k = rest_kept c.args.out.now 4 c.put_slot-n.new.out c.put_slot-n.auto.out in
+    lent_length (c.put_slot-n.result + 1) (with_rest c.args.out.now 4 c.put_slot-n.new.out) c.put_slot.new.out c.put_slot.auto.out ∙ k
 
 pub returns : goal.returns
 returns c =
-    let d : tie.After-slice-known2 = c.before in
-    pair_put _ (out d) _ d.before.before.before.before.before.before.requires _ _ _ d.before.before.put_slot-n.ensures refl (kept d) _ _ _ _ refl c.put_slot.ensures
+    let k = rest_kept c.args.out.now 4 c.put_slot-n.new.out c.put_slot-n.auto.out in
+    pair_put _ c.args.out.now _ c.requires _ _ _ c.put_slot-n.ensures refl k _ _ _ _ refl c.put_slot.ensures

@@ -5,4 +5,4 @@ use Rattle.visible.proofs.begin.Goals as goal
 
 pub returns : goal.returns
 unfolding stacked
-returns c = (refl, refl)
+returns c = record { result_value = refl; depth = refl }
