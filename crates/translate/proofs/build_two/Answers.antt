@@ -1,79 +1,58 @@
 -- `translate::build_two` meets its contract. Assumes nothing.
+use Rattle.std.proofs.Common.{ℕ, ◌≡◌, ◌+◌, ◌-◌, ◌*◌, ◌≤◌, List, length, take, drop, refl, ap, arith}
+use borrow.Rule.Slice.PartMut.{put_mid}
+use Rattle.rendering.specs.Judge.{Meaning}
+use Rattle.translate.specs.Stepwise.{built, after}
+use Rattle.translate.specs.Making.{Ready, Done, Makes}
 use Rattle.translate.proofs.Building.{two_first, two_fits, two_second, two_done}
 use Rattle.translate.proofs.Writing.{done_fits}
-use Rattle.translate.specs.Stepwise.{Making, built, after}
-use Rattle.translate.specs.Making.{Ready, Done}
-use Rattle.rendering.specs.Judge.{Meaning}
-use Prim.Native.Nat.{ℕ, ◌+◌, ◌-◌, ◌*◌, ◌≤◌}
-use mathlib.Core.List.{List}
-use lib.ListN.{length, take, drop}
-use native.Mathlib.Omega.{arith}
-use mathlib.Core.Path.{refl, ap}
-use borrow.Rule.Slice.PartMut.{put_mid}
 use Rattle.translate.proofs.build_two.Goals as goal
 
-abbrev first : goal.Start → List Meaning → Making
-first z = built z.args.s.now z.args.i
+-- ── What is known on the way ──
 
-abbrev second : goal.Start → List Meaning → Making
-second z = built z.args.s.now z.args.j
+-- the first term is built, by a statements
+module _ (s : List ℕ) (i j : ℕ) {ms : List Meaning} {symbols array out : List ℕ} {registers : ℕ} (r : Ready (after (built s i) (built s j)) ms symbols array registers out) {array₁ o : List ℕ} {a : ℕ} (m : Makes (built s i) symbols symbols array array₁ registers (registers + a) out o a) where
+  first_done : Done (built s i ms) symbols array₁ (registers + a) out o a
+  first_done = m ms (two_first s i j r)
 
--- what is asked of some meanings
-abbrev Asked : goal.Start → List Meaning → Type 0
-Asked z ms = Ready (after (first z) (second z)) ms z.args.symbols.now z.args.terms.now z.args.registers z.args.out.now
+  first_fits : (registers + a ≤ 224) × (4 * a ≤ length o)
+  first_fits = two_fits s i j r refl first_done
 
--- what is left
-abbrev Leaves : goal.Start → Making → List ℕ → List ℕ → ℕ → Type 0
-Leaves z r array left n = Done r z.args.symbols.now array (z.args.registers + n) z.args.out.now left n
+  -- the second is built in the rest of the buffer
+  module _ {w : ℕ} (p : w ≡ a) where
+    second_start : 4 * w ≤ length o
+    second_start = rw p first_fits.1
 
--- where the first term is built
-abbrev start : goal.After-build_term-a → goal.Start
-start c = c.before
+    second_ready : Ready (built s j) (built s i ms).1 symbols array₁ (registers + a) (take (length o - 4 * w) (drop (4 * w) o))
+    second_ready = two_second s i j r (ap (λ (n : ℕ). 4 * n) p) first_done
 
-abbrev array₁ : goal.After-build_term-a → List ℕ
-array₁ c = c.build_term-a.new.1.1.1.0
+    -- by b statements
+    module _ {array₂ ys : List ℕ} {b : ℕ} (k : Makes (built s j) symbols symbols array₁ array₂ (registers + a) (registers + a + b) (take (length o - 4 * w) (drop (4 * w) o)) ys b) where
+      both_done : Done (after (built s i) (built s j) ms) symbols array₂ (registers + (a + b)) out (put_mid (4 * w) (length o - 4 * w) o ys) (a + b)
+      both_done = two_done s i j r (ap (λ (n : ℕ). 4 * n) p) first_done (k _ second_ready)
 
-abbrev out₁ : goal.After-build_term-a → List ℕ
-out₁ c = c.build_term-a.new.1.1.1.1.1.0
+      both_few : registers + (a + b) ≤ 224
+      both_few = (done_fits {f = after (built s i) (built s j)} ms refl r both_done).0
 
-first_done : (c : goal.After-build_term-a) (ms : List Meaning) → let z = start c in Asked z ms → Leaves z (first z ms) (array₁ c) (out₁ c) c.build_term-a.result
-first_done c ms r = c.build_term-a.ensures ms (two_first _ _ _ r)
-
-first_fits : (c : goal.After-build_term-a) → ((start c).args.registers + c.build_term-a.result ≤ 224) × (4 * c.build_term-a.result ≤ length (out₁ c))
-first_fits c = let r = (start c).requires.3.1 in two_fits _ _ _ r refl (first_done c _ r)
-
--- where the second is to be built
-abbrev left : goal.After-wide → goal.After-build_term-a
-left c = c.before
-
-second-ready : (c : goal.After-wide) (ms : List Meaning) → let l = left c in let z = start l in let at = 4 * c.wide.result in
-    Asked z ms → Ready (second z) (first z ms).1 z.args.symbols.now (array₁ l) (z.args.registers + l.build_term-a.result) (take (length (out₁ l) - at) (drop at (out₁ l)))
-second-ready c ms r = two_second _ _ _ r (ap (λ (n : ℕ). 4 * n) c.wide.ensures) (first_done (left c) ms r)
-
--- where both are
-both-done : (c : goal.After-build_term-b) (ms : List Meaning) → let l = left c.before in let z = start l in let at = 4 * c.wide.result in
-    Asked z ms → Leaves z (after (first z) (second z) ms) c.build_term-b.new.1.1.1.0 (put_mid at (length (out₁ l) - at) (out₁ l) c.build_term-b.new.1.1.1.1.1.0) (l.build_term-a.result + c.build_term-b.result)
-both-done c ms r = two_done _ _ _ r (ap (λ (n : ℕ). 4 * n) c.wide.ensures) (first_done (left c.before) ms r) (c.build_term-b.ensures _ (second-ready c.before ms r))
+-- ── The goals ──
 
 pub build_term-a-requires : goal.build_term-a-requires
 build_term-a-requires c = (c.requires.0, c.requires.1, (_, two_first _ _ _ c.requires.3.1))
 
 pub overflow_add-registers : goal.overflow_add-registers
-overflow_add-registers c = omega (arith, (first_fits c.before).0)
+overflow_add-registers c = omega (arith, (first_fits _ _ _ c.requires.3.1 c.build_term-a.ensures).0)
 
 pub slice_bounds-build_term-count : goal.slice_bounds-build_term-count
-slice_bounds-build_term-count c = omega (arith, c.wide.ensures, (first_fits c.before).1)
+slice_bounds-build_term-count c = second_start _ _ _ c.requires.3.1 c.build_term-a.ensures c.wide.ensures
 
 pub slice_bounds-build_term-start : goal.slice_bounds-build_term-start
-slice_bounds-build_term-start c = omega (arith, c.wide.ensures, (first_fits c.before).1)
+slice_bounds-build_term-start c = second_start _ _ _ c.requires.3.1 c.build_term-a.ensures c.wide.ensures
 
 pub build_term-b-requires : goal.build_term-b-requires
-build_term-b-requires c = (c.requires.0, c.requires.2, (_, second-ready c.before _ c.requires.3.1))
+build_term-b-requires c = (c.requires.0, c.requires.2, (_, second_ready _ _ _ c.requires.3.1 c.build_term-a.ensures c.wide.ensures))
 
 pub overflow_add-result : goal.overflow_add-result
-overflow_add-result c =
-    let r = c.requires.3.1 in
-    omega (arith, (done_fits {f = after (first z) (second z)} _ refl r (both-done c.before _ r)).0)
+overflow_add-result c = omega (arith, both_few _ _ _ c.requires.3.1 c.build_term-a.ensures c.wide.ensures c.build_term-b.ensures)
 
 pub returns : goal.returns
-returns c = both-done c.before
+returns c ms r = both_done _ _ _ r c.build_term-a.ensures c.wide.ensures c.build_term-b.ensures

@@ -17,34 +17,35 @@ use native.Mathlib.Omega.{arith}
 use mathlib.Core.Path.{◌≡◌, refl, sym, ◌∙◌}
 use Rattle.translate.proofs.write_statements.Goals as goal
 
--- where the statements are counted: the table has passed, so their number is known
-abbrev table : goal.After-statement_count → List ℕ
-table c = c.args.s.now
+-- the table s has passed, so the number n of its statements is known
+module _ (s : List ℕ) (e : least (table_rungs s) ≡ Pass) {n : ℕ} (k : least (table_rungs s) ≡ Pass → n ≡ length (translation signature1 halves (table_of s))) where
+  counted : n ≡ length (translation signature1 halves (table_of s))
+  counted = k e
 
-abbrev bytes : goal.After-statement_count → List ℕ
-bytes c = statements_bytes (translation signature1 halves (table_of (table c)))
+  bytes_counted : length (statements_bytes (translation signature1 halves (table_of s))) ≡ 4 * n
+  bytes_counted = omega (arith, counted, bytes_length (translation signature1 halves (table_of s)))
 
-passed : (c : goal.After-statement_count) → least (table_rungs (table c)) ≡ Pass
-passed c = sym c.check_table-a.ensures ∙ c.enum_told-1.given.1
-
-counted : (c : goal.After-statement_count) → c.statement_count.result ≡ length (translation signature1 halves (table_of (table c)))
-counted c = c.statement_count.ensures.known (passed c)
-
-bytes_counted : (c : goal.After-statement_count) → length (bytes c) ≡ 4 * c.statement_count.result
-bytes_counted c = omega (arith, counted c, bytes_length (translation signature1 halves (table_of (table c))))
+-- ── The goals ──
 
 pub returns-in_default : goal.returns-in_default
 returns-in_default c = rw (sym c.check_table-a.ensures ∙ c.in_default.is) refl
 
 pub overflow_mul-statement_count : goal.overflow_mul-statement_count
-overflow_mul-statement_count c = omega (arith, counted c, (all_fits (table c) (passed c)).0)
+overflow_mul-statement_count c =
+    let e = sym c.check_table-a.ensures ∙ c.in-Pass.is in
+    omega (arith, counted _ e c.statement_count.ensures.known, (all_fits _ e).0)
 
 pub put_statements-requires : goal.put_statements-requires
-put_statements-requires c = (passed c.before, rw (counted c.before) at c.if-statement_count-out.true)
+put_statements-requires c =
+    let e = sym c.check_table-a.ensures ∙ c.in-Pass.is in
+    (e, rw (counted _ e c.statement_count.ensures.known) at c.if-statement_count-out.true)
 
 pub returns-then-statement_count-out : goal.returns-then-statement_count-out
 returns-then-statement_count-out c =
-    rw (passed p) (c.put_statements.ensures ∙ sym (over_fits (bytes p) _ (omega (arith, bytes_counted p, c.if-statement_count-out.true))))
+    let e = sym c.check_table-a.ensures ∙ c.in-Pass.is in
+    rw e (c.put_statements.ensures ∙ sym (over_fits _ _ (omega (arith, bytes_counted _ e c.statement_count.ensures.known, c.if-statement_count-out.true))))
 
 pub returns-else-statement_count-out : goal.returns-else-statement_count-out
-returns-else-statement_count-out c = rw (passed c.before) (sym (over_short (bytes c.before) _ (omega (arith, bytes_counted c.before, c.if-statement_count-out.false))))
+returns-else-statement_count-out c =
+    let e = sym c.check_table-a.ensures ∙ c.in-Pass.is in
+    rw e (sym (over_short _ _ (omega (arith, bytes_counted _ e c.statement_count.ensures.known, c.if-statement_count-out.false))))

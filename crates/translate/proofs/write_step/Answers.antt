@@ -1,71 +1,79 @@
 -- `translate::write_step` meets its contract. Assumes nothing.
-use Rattle.translate.proofs.StepWriting.{operands_ready, operands_fit, states_room, few, step_done}
+use Rattle.std.proofs.Common.{ℕ, ◌≡◌, ◌+◌, ◌-◌, ◌*◌, ◌<◌, ◌≤◌, List, length, take, drop, refl, ap, arith}
+use borrow.Rule.Slice.PartMut.{put_mid}
+use Rattle.answers.specs.Ladder.{least}
+use Rattle.answers.specs.declared.Check.TheVariants.{Pass}
+use Rattle.buffers.specs.Over.{over}
+use Rattle.table_layout.specs.Layout.{steps}
+use Rattle.table.specs.Faults.{table_rungs}
+use Rattle.rendering.specs.Judge.{Meaning}
 use Rattle.decoded.proofs.Tabled.{step_known}
 use Rattle.translate.specs.Stepwise.{operands_built, step_made}
-use Rattle.translate.specs.Making.{Ready, Done}
-use Rattle.rendering.specs.Judge.{Meaning}
-use Prim.Native.Nat.{ℕ, ◌+◌, ◌*◌, ◌≤◌}
-use mathlib.Core.List.{List}
-use lib.ListN.{length}
-use native.Mathlib.Omega.{arith}
-use mathlib.Core.Path.{◌≡◌, refl, ap}
+use Rattle.translate.specs.Making.{Ready, Done, Makes, BindsStep, step_stated_bytes}
+use Rattle.translate.proofs.StepWriting.{operands_ready, operands_fit, states_room, few, step_done}
 use Rattle.translate.proofs.write_step.Goals as goal
 
--- what is asked of some meanings
-abbrev Asked : goal.Start → List Meaning → Type 0
-Asked z ms = Ready (step_made z.args.s.now z.args.k) ms z.args.symbols.now z.args.terms.now z.args.registers z.args.out.now
+-- ── What is known on the way ──
 
--- where the step's terms are built
-abbrev start : goal.After-build_operands-a → goal.Start
-start c = c.before
+-- the step's terms are built, by a statements
+module _ (s : List ℕ) (e : least (table_rungs s) ≡ Pass) (k : ℕ) (h : k < steps s) {ms : List Meaning} {symbols array out : List ℕ} {registers : ℕ} (r : Ready (step_made s k) ms symbols array registers out) {array₁ o : List ℕ} {a : ℕ} (m : Makes (operands_built s k) symbols symbols array array₁ registers (registers + a) out o a) where
+  operands_done : Done (operands_built s k ms) symbols array₁ (registers + a) out o a
+  operands_done = m ms (operands_ready s e k h ms r)
 
-abbrev out₁ : goal.After-build_operands-a → List ℕ
-out₁ c = c.build_operands-a.new.1.1.1.1.1.0
+  fits : (registers + a ≤ 224) × (4 * a ≤ length o)
+  fits = operands_fit s e k h ms r refl operands_done
 
-operands-done : (c : goal.After-build_operands-a) (ms : List Meaning) → let z = start c in
-    Asked z ms → Done (operands_built z.args.s.now z.args.k ms) z.args.symbols.now c.build_operands-a.new.1.1.1.0 (z.args.registers + c.build_operands-a.result) z.args.out.now (out₁ c) c.build_operands-a.result
-operands-done c ms r = c.build_operands-a.ensures ms (operands_ready _ (start c).requires.0 _ (start c).requires.1 ms r)
+  -- where its statements start
+  module _ {w : ℕ} (p : w ≡ a) where
+    part_at : 4 * w ≡ 4 * a
+    part_at = ap (λ (n : ℕ). 4 * n) p
 
-fits : (c : goal.After-build_operands-a) → ((start c).args.registers + c.build_operands-a.result ≤ 224) × (4 * c.build_operands-a.result ≤ length (out₁ c))
-fits c = let r = (start c).requires.2.1 in operands_fit _ (start c).requires.0 _ (start c).requires.1 _ r refl (operands-done c _ r)
+    part_start : 4 * w ≤ length o
+    part_start = rw p fits.1
 
--- where its statements start
-part_at : (c : goal.After-wide) → 4 * c.wide.result ≡ 4 * c.build_operands-a.result
-part_at c = ap (λ (n : ℕ). 4 * n) c.wide.ensures
+    part_room : length (step_stated_bytes s k symbols array₁ (registers + a)) ≤ length (take (length o - 4 * w) (drop (4 * w) o))
+    part_room = states_room s e k h ms r part_at operands_done
+
+    -- there are b of them
+    module _ (b : ℕ) (n : 4 * b ≡ length (step_stated_bytes s k symbols array₁ (registers + a))) where
+      few_stated : b ≤ 2
+      few_stated = few s e k h ms r part_at operands_done b n
+
+      all_done : {symbols₁ ys : List ℕ} {registers₁ : ℕ} → ys ≡ over (step_stated_bytes s k symbols array₁ (registers + a)) (take (length o - 4 * w) (drop (4 * w) o)) → BindsStep s k symbols symbols₁ (registers + a) registers₁
+          → Done (step_made s k ms) symbols₁ array₁ registers₁ out (put_mid (4 * w) (length o - 4 * w) o ys) (a + b)
+      all_done z t =
+          let d = operands_done in
+          let q = t _ d.holds.of_symbols d.holds.count in
+          step_done s e k h ms r part_at d b n z q.0 q.1
+
+-- ── The goals ──
 
 pub build_operands-a-requires : goal.build_operands-a-requires
 build_operands-a-requires c = (c.requires.0, c.requires.1, (_, operands_ready _ c.requires.0 _ c.requires.1 _ c.requires.2.1))
 
 pub overflow_add-registers : goal.overflow_add-registers
-overflow_add-registers c = omega (arith, (fits c.before).0)
+overflow_add-registers c = omega (arith, (fits _ c.requires.0 _ c.requires.1 c.requires.2.1 c.build_operands-a.ensures).0)
 
 pub slice_bounds-state_step-count : goal.slice_bounds-state_step-count
-slice_bounds-state_step-count c = omega (arith, part_at c, (fits c.before).1)
+slice_bounds-state_step-count c = part_start _ c.requires.0 _ c.requires.1 c.requires.2.1 c.build_operands-a.ensures c.wide.ensures
 
 pub slice_bounds-state_step-start : goal.slice_bounds-state_step-start
-slice_bounds-state_step-start c = omega (arith, part_at c, (fits c.before).1)
+slice_bounds-state_step-start c = part_start _ c.requires.0 _ c.requires.1 c.requires.2.1 c.build_operands-a.ensures c.wide.ensures
 
 pub state_step-b-requires : goal.state_step-b-requires
-state_step-b-requires c =
-    let r = c.requires.2.1 in
-    states_room _ c.requires.0 _ c.requires.1 _ r (part_at c.before) (operands-done c.before _ r)
+state_step-b-requires c = part_room _ c.requires.0 _ c.requires.1 c.requires.2.1 c.build_operands-a.ensures c.wide.ensures
 
 pub overflow_add-registers-2 : goal.overflow_add-registers-2
-overflow_add-registers-2 c = omega (arith, (fits c.before).0)
+overflow_add-registers-2 c = omega (arith, (fits _ c.requires.0 _ c.requires.1 c.requires.2.1 c.build_operands-a.ensures).0)
 
 pub bind_step-after-requires : goal.bind_step-after-requires
-bind_step-after-requires c = (step_known _ c.requires.0 _ c.requires.1, omega (arith, (fits c.before).0))
+bind_step-after-requires c = (step_known _ c.requires.0 _ c.requires.1, omega (arith, (fits _ c.requires.0 _ c.requires.1 c.requires.2.1 c.build_operands-a.ensures).0))
 
 pub overflow_add-result : goal.overflow_add-result
 overflow_add-result c =
     let r = c.requires.2.1 in
-    let m = c.state_step-b in
-    omega (arith, (fits c.before).0, few _ c.requires.0 _ c.requires.1 _ r (part_at c.before) (operands-done c.before _ r) m.result m.ensures.0)
+    let m = c.build_operands-a.ensures in
+    omega (arith, (fits _ c.requires.0 _ c.requires.1 r m).0, few_stated _ c.requires.0 _ c.requires.1 r m c.wide.ensures _ c.state_step-b.ensures.counted)
 
 pub returns : goal.returns
-returns c =
-    let m = c.state_step-b in
-    λ ms r.
-    let d = operands-done c.before ms r in
-    let t = c.bind_step-after.ensures _ d.holds.of_symbols d.holds.count in
-    step_done _ c.requires.0 _ c.requires.1 ms r (part_at c.before) d m.result m.ensures.0 m.ensures.1 t.0 t.1
+returns c ms r = all_done _ c.requires.0 _ c.requires.1 r c.build_operands-a.ensures c.wide.ensures _ c.state_step-b.ensures.counted c.state_step-b.ensures.written c.bind_step-after.ensures
