@@ -182,6 +182,7 @@ module _ {l tr z y : List ℕ} {As : List T} {R : Outcome} {k : ℕ} {w o g : Li
         where
           next : (Q : Outcome) → later k p.ms (after ns Q) ≡ later (k + 1) (p.ms ++ ns) Q
           next Q = let n : k + suc Q.place ≡ k + 1 + Q.place = omega arith in rw (n, append_assoc p.ms ns Q.log)
+      go (stops _ _ _) q x6 _ = elim x6 [ ]
 
   -- it ends the run
   pub ended_by : {w' o' g' : List ℕ} {n : ℕ} {c : State} → Does (builds_at l base k) (messages_at l base k) (executing_at l base k) l tr w w' o o' g g' s (Stop n c) → Told tr z w' y o' R (ended_as n k c)
@@ -191,6 +192,7 @@ module _ {l tr z y : List ℕ} {As : List T} {R : Outcome} {k : ℕ} {w o g : Li
       go : (u : Out ℕ (Register ℕ)) → R ≡ later k p.ms (and_then done.0 u (λ new su. run_rest l As (k + 1) done.0 (p.rs ++ new) su))
           → Comes tr z y done.0 p.rs p.ms w' o' g' u (Stop n c) → Told tr z w' y o' R (ended_as n k c)
       go (stops f ns su) q (comes_end i j) = told f (k + 0) q i (omega arith) j
+      go (goes _ _ _) q x5 = elim x5 [ ]
 
 -- ── The end ──
 

@@ -135,12 +135,3 @@ module _ (t l tr array : List ℕ) (n : ℕ) (f : FreeIn t array n) where
       -- it lacks its type
       pub one_lacks : b ≡ false → (r : Check) → r ≡ Refuse (refusal 14 2 i) → StartsChecked t l tr r
       one_lacks g r q = record { checked = λ e free z k d m. rw q (lacks (same ∙ (f e).count) h (tested e k d m ∙ g) (p.fit e k d m)) }
-
--- what a negated test tells
-pub was_true : (b : Bool) → not b ≡ false → b ≡ true
-was_true true e = refl
-was_true false e = let y : ◌≡◌ {A = ℕ} 0 1 = cc in absurd (omega arith)
-
-pub was_false : (b : Bool) → not b ≡ true → b ≡ false
-was_false false e = refl
-was_false true e = let y : ◌≡◌ {A = ℕ} 0 1 = cc in absurd (omega arith)

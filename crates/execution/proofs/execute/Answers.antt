@@ -1,6 +1,7 @@
 -- `execution::execute` meets its contract. Assumes nothing.
 use Rattle.execution.proofs.StatementLaws.{sends, receives, freshens, compares, halves_left, halves_right, decrypts, pairs, encrypts, unknowns, past_known}
 use mathlib.Core.Path.{refl}
+use native.Mathlib.Omega.{arith}
 use Rattle.calculus.specs.Signature.{pairing, seal}
 use Rattle.calculus.specs.Terms.{left, right}
 use Rattle.calculus.specs.Version1.{encryption}
@@ -40,4 +41,4 @@ unfolding two_code
 returns-in-8 c = encrypts _ _ _ _ _ _ _ _ _ _ _ _ _ _ _ _ _ _ c.code_at-op.ensures c.operand_at.ensures c.operand_at-2.ensures c.operand_at-x.ensures c.value_in-v.ensures c.value_in-w.ensures c.in-8.is (c.build-in-8.ensures (seal encryption) _ _ _ refl)
 
 pub returns-in-9-to-255 : goal.returns-in-9-to-255
-returns-in-9-to-255 c = unknowns _ _ _ _ _ _ _ _ _ _ _ _ _ _ _ _ _ _ c.code_at-op.ensures c.operand_at.ensures c.operand_at-2.ensures c.operand_at-x.ensures c.value_in-v.ensures c.value_in-w.ensures (past_known _ c.in-9-to-255.rest.0.0.0.0.0.0.0.0.1 c.in-9-to-255.rest.0.0.0.0.0.0.0.1 c.in-9-to-255.rest.0.0.0.0.0.0.1 c.in-9-to-255.rest.0.0.0.0.0.1 c.in-9-to-255.rest.0.0.0.0.1 c.in-9-to-255.rest.0.0.0.1 c.in-9-to-255.rest.0.0.1 c.in-9-to-255.rest.0.1 c.in-9-to-255.rest.1) (c.fresh-in-9-to-255.ensures _)
+returns-in-9-to-255 c = unknowns _ _ _ _ _ _ _ _ _ _ _ _ _ _ _ _ _ _ c.code_at-op.ensures c.operand_at.ensures c.operand_at-2.ensures c.operand_at-x.ensures c.value_in-v.ensures c.value_in-w.ensures (past_known _ (λ e. omega arith) (λ e. omega arith) (λ e. omega arith) (λ e. omega arith) (λ e. omega arith) (λ e. omega arith) (λ e. omega arith) (λ e. omega arith) (λ e. omega arith)) (c.fresh-in-9-to-255.ensures _)

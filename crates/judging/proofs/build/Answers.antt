@@ -19,8 +19,7 @@ pub returns : goal.returns
 unfolding Turned
 returns c =
     let a = c.args in
-    let f = c.f-1.given in
-    let z = sym (ap found_as f.1) ∙ c.find-f.ensures in
+    let z = sym (ap found_as c.in-At.is) ∙ c.find-f.ensures in
     λ k n e ms u v held m g o.
     let w = o (λ (y : a.kind + 6 ≡ 2). absurd (omega arith)) in
-    built_on a.s.now ms u v k e a.p a.q a.kind n w.0 w.1 a.state f.0.0 _ _ a.registers z g held m c.give.ensures
+    built_on a.s.now ms u v k e a.p a.q a.kind n w.0 w.1 a.state c.in-At.i _ _ a.registers z g held m c.give.ensures

@@ -34,4 +34,4 @@ unfolding due_op
 returns-in-5 c = rw c.in-5.is
 
 pub returns-in-6-to-255 : goal.returns-in-6-to-255
-returns-in-6-to-255 c = sym (due_none _ _ (omega (arith, c.in-6-to-255.rest)))
+returns-in-6-to-255 c = sym (due_none _ _ (omega arith))

@@ -1,17 +1,12 @@
 -- `judging::find` meets its contract. Assumes nothing.
 use mathlib.Core.Path.{◌≡◌, refl, sym, ◌∙◌}
-use mathlib.Core.Bool.{Bool, true, false, not}
-use mathlib.Core.List.{List}
-use Prim.Native.Nat.{ℕ, ◌-◌}
+use mathlib.Core.Bool.{true, false}
 use native.Mathlib.Omega.{arith}
 use Rattle.base.proofs.Searched.{first_right, first_wrong_lem, first_end}
 use Rattle.judging.specs.Due.{fits_at}
 use borrow.Author.Rules.{rules}
+use Rattle.judging.proofs.find.Invariants.{misses}
 use Rattle.judging.proofs.find.Goals as goal
-
--- term i does not fit
-abbrev misses : List ℕ → ℕ → ℕ → ℕ → ℕ → Bool
-misses s kind p q i = not (fits_at s kind p q i)
 
 pub loop-i-init : goal.loop-i-init
 loop-i-init c = (search rules, refl)
@@ -21,7 +16,7 @@ returns-then-fits c =
     let a = c.args in
     let f = misses a.s.now a.kind a.p a.q in
     let l = c.loop-i in
-    let e : fits_at a.s.now a.kind a.p a.q l.i ≡ true = sym c.fits2.ensures ∙ c.if-fits.true in
+    let e : fits_at a.s.now a.kind a.p a.q l.i ≡ true = sym c.fits.ensures ∙ c.if-fits.true in
     rw (← c.term_count-n.ensures) (sym (l.invariant.1 ∙ first_wrong_lem f _ _ c.loop-i-test.true (rw e)))
 
 pub loop-i-preserved : goal.loop-i-preserved
@@ -29,7 +24,7 @@ loop-i-preserved c =
     let a = c.args in
     let f = misses a.s.now a.kind a.p a.q in
     let l = c.loop-i in
-    let e : fits_at a.s.now a.kind a.p a.q l.i ≡ false = sym c.fits2.ensures ∙ c.if-fits.false in
+    let e : fits_at a.s.now a.kind a.p a.q l.i ≡ false = sym c.fits.ensures ∙ c.if-fits.false in
     (omega arith, l.invariant.1 ∙ first_right f _ _ c.loop-i-test.true (rw e))
 
 pub returns : goal.returns

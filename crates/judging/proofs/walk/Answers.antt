@@ -1,6 +1,6 @@
 -- `judging::walk` meets its contract. Assumes nothing.
 use mathlib.Core.Path.{refl, ap, ◌∙◌}
-use Prim.Native.Nat.{◌-◌, ◌≤◌, ◌<◌}
+use Prim.Native.Nat.{◌≤◌, ◌<◌}
 use native.Mathlib.Omega.{arith}
 use Rattle.list.specs.Layout.{statements}
 use Rattle.list.proofs.Walks.{given_first, given_more}

@@ -17,10 +17,10 @@ pub loop-i-init : goal.loop-i-init
 loop-i-init c = (search rules, none_yet _ _ _)
 
 pub returns-then-not-start_seen : goal.returns-then-not-start_seen
-returns-then-not-start_seen c = one_lacks _ _ _ _ _ (λ e. c.list_free-n.ensures e (length-replicate {A = ℕ} 256 0)) (omega (arith, c.if-n-count.false, c.if-count-n.false, c.starting_count-count.ensures)) _ c.loop-i.invariant.1 _ c.get.ensures _ c.start_seen.ensures (omega (arith, c.loop-i-test.true, c.starting_count-count.ensures)) (was_false _ c.if-not-start_seen.true) _ (c.refuse-then-not-start_seen.ensures ∙ rw c.wide-then-not-start_seen.ensures refl)
+returns-then-not-start_seen c = one_lacks _ _ _ _ _ (λ e. c.list_free-n.ensures e (length-replicate {A = ℕ} 256 0)) (omega (arith, c.if-n-count.false, c.if-count-n.false, c.starting_count-count.ensures)) _ c.loop-i.invariant.1 _ c.get.ensures _ c.start_seen.ensures (omega (arith, c.loop-i-test.true, c.starting_count-count.ensures)) c.if-not-start_seen.true _ (c.refuse-then-not-start_seen.ensures ∙ rw c.wide-then-not-start_seen.ensures refl)
 
 pub loop-i-preserved : goal.loop-i-preserved
-loop-i-preserved c = (search rules, one_more _ _ _ _ _ (λ e. c.list_free-n.ensures e (length-replicate {A = ℕ} 256 0)) (omega (arith, c.if-n-count.false, c.if-count-n.false, c.starting_count-count.ensures)) _ c.loop-i.invariant.1 _ c.get.ensures _ c.start_seen.ensures (omega (arith, c.loop-i-test.true, c.starting_count-count.ensures)) (was_true _ c.if-not-start_seen.false))
+loop-i-preserved c = (search rules, one_more _ _ _ _ _ (λ e. c.list_free-n.ensures e (length-replicate {A = ℕ} 256 0)) (omega (arith, c.if-n-count.false, c.if-count-n.false, c.starting_count-count.ensures)) _ c.loop-i.invariant.1 _ c.get.ensures _ c.start_seen.ensures (omega (arith, c.loop-i-test.true, c.starting_count-count.ensures)) c.if-not-start_seen.false)
 
 pub returns : goal.returns
 returns c = all_start _ _ _ _ _ (λ e. c.list_free-n.ensures e (length-replicate {A = ℕ} 256 0)) (omega (arith, c.if-n-count.false, c.if-count-n.false, c.starting_count-count.ensures)) _ c.loop-i.invariant.1 (omega (arith, c.loop-i-test.false, c.starting_count-count.ensures))
