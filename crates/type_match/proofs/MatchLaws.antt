@@ -110,13 +110,11 @@ module _ (l w : List ℕ) (n i : ℕ) (p : SoFar l w n i) where
     })
 
 -- what a comparison tells
-pub is_same : (u v : List ℕ) (r : Bool) → not r ≡ false → (r ≡ true → u ≡ v) → u ≡ v
-is_same u v true e f = f refl
-is_same u v false e f = let y : ◌≡◌ {A = ℕ} 0 1 = cc in absurd (omega arith)
+pub is_same : (u v : List ℕ) (r : Bool) → r ≡ true → (r ≡ true → u ≡ v) → u ≡ v
+is_same u v r e f = f e
 
-pub not_same : (u v : List ℕ) (r : Bool) → not r ≡ true → (u ≡ v → r ≡ true) → ¬ (u ≡ v)
-not_same u v true e f q = let y : ◌≡◌ {A = ℕ} 0 1 = cc in absurd (omega arith)
-not_same u v false e f q = let g = f q in let y : ◌≡◌ {A = ℕ} 0 1 = cc in absurd (omega arith)
+pub not_same : (u v : List ℕ) (r : Bool) → r ≡ false → (u ≡ v → r ≡ true) → ¬ (u ≡ v)
+not_same u v r e f q = let g = f q in let y : ◌≡◌ {A = ℕ} 0 1 = cc in absurd (omega arith)
 
 -- where the next type stands
 pub next_at : (l : List ℕ) (at i b r : ℕ) → at ≡ type_at l i → b ≡ byte l at → r ≡ at + (b + 1) → r ≡ type_at l (i + 1)

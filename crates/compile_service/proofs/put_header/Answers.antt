@@ -6,4 +6,4 @@ use Rattle.compile_service.proofs.put_header.Goals as goal
 
 pub returns : goal.returns
 unfolding header_bytes
-returns c = c.copy.ensures.1 ∙ rw (c.mark_byte.ensures, c.mark_byte-2.ensures, c.mark_byte-3.ensures) (over_fits _ _ c.requires.1)
+returns c = c.copy.ensures.written ∙ rw (c.mark_byte.ensures, c.mark_byte-2.ensures, c.mark_byte-3.ensures) (over_fits _ _ c.requires.1)

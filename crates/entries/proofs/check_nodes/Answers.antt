@@ -1,6 +1,5 @@
 -- `entries::check_nodes` meets its contract. Assumes nothing.
 use mathlib.Core.Path.{refl, sym, ◌∙◌}
-use Prim.Native.Nat.{◌-◌}
 use native.Mathlib.Omega.{arith}
 use borrow.Author.Rules.{rules}
 use Rattle.answers.proofs.Ladder.{rung_found, rung_clean}

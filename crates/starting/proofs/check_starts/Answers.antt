@@ -3,7 +3,7 @@ use mathlib.Core.Path.{refl, ◌∙◌}
 use Prim.Native.Nat.{ℕ, ◌-◌}
 use native.Mathlib.Omega.{arith}
 use lib.ListN.{length-replicate}
-use Rattle.starting.proofs.StartLaws.{none_yet, fewer_starts, more_starts, all_start, one_more, one_lacks, was_true, was_false}
+use Rattle.starting.proofs.StartLaws.{none_yet, fewer_starts, more_starts, all_start, one_more, one_lacks}
 use borrow.Author.Rules.{rules}
 use Rattle.starting.proofs.check_starts.Goals as goal
 
