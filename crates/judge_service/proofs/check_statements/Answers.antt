@@ -6,7 +6,7 @@ pub returns-in-Accepted : goal.returns-in-Accepted
 returns-in-Accepted c = is_accepted _ _ (rw c.in-Accepted.is at c.judge_statements-v.ensures)
 
 pub returns-in-NotDue : goal.returns-in-NotDue
-returns-in-NotDue c = is_not_due _ _ _ _ (rw c.in-NotDue.is at c.judge_statements-v.ensures) c.refuse.ensures
+returns-in-NotDue c = is_not_due _ _ _ _ (rw c.in-NotDue.is at c.judge_statements-v.ensures) cc
 
 pub returns-in-Unfinished : goal.returns-in-Unfinished
-returns-in-Unfinished c = is_unfinished _ _ _ _ (rw c.in-Unfinished.is at c.judge_statements-v.ensures) c.refuse-in-Unfinished.ensures
+returns-in-Unfinished c = is_unfinished _ _ _ _ (rw c.in-Unfinished.is at c.judge_statements-v.ensures) cc
