@@ -1,8 +1,6 @@
 -- `shelf_service::judge_each` meets its contract. Assumes nothing.
 use mathlib.Core.Path.{refl}
-use Prim.Native.Nat.{◌+◌, ◌-◌, ◌≤◌}
 use native.Mathlib.Omega.{arith}
-use lib.ListN.{length, get_or}
 use borrow.Author.Rules.{rules}
 use Rattle.shelf_service.proofs.Writing.{judging_none, ends_inside, judging_more, judging_all}
 use Rattle.shelf_service.proofs.judge_each.Goals as goal
