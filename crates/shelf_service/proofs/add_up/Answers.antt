@@ -1,5 +1,4 @@
 -- `shelf_service::add_up` meets its contract. The loop's invariant: what is left and the lengths passed are the bytes. Assumes nothing.
-use Prim.Native.Nat.{◌-◌}
 use native.Mathlib.Omega.{arith}
 use borrow.Author.Rules.{rules}
 use Rattle.shelf_service.proofs.Totals.{total_none, too_long, one_taken, nothing_left}

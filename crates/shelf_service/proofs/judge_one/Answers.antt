@@ -4,4 +4,4 @@ use Rattle.shelf_service.proofs.Writing.{one_judged}
 use Rattle.shelf_service.proofs.judge_one.Goals as goal
 
 pub returns : goal.returns
-returns c = one_judged _ _ _ _ _ _ (slice_bytes _ c.shared_slice_known-3-1.given) c.judge_typed-verdict.ensures c.put_verdict.ensures
+returns c = one_judged _ _ _ _ _ _ (slice_bytes _ c.type_inv.list) c.judge_typed-verdict.ensures c.put_verdict.ensures
