@@ -6,7 +6,6 @@ use Rattle.entries.specs.Faults.{alone, twin_rung}
 use Rattle.answers.proofs.Ladder.{rung_found, rung_clean}
 use Rattle.base.proofs.Searched.{first_right}
 use lib.ListN.{length-set}
-use Prim.Native.Nat.{◌-◌}
 use native.Mathlib.Omega.{arith}
 use mathlib.Core.Path.{refl, sym, ◌∙◌}
 use Rattle.filing.proofs.check_filed.Goals as goal

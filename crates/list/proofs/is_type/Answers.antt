@@ -2,7 +2,6 @@
 use borrow.Author.Rules.{rules}
 use native.Mathlib.Omega.{arith}
 use Rattle.list.proofs.Wanted.{parts_few, wants_end, wants_none, wants_unknown, wants_more}
-use Prim.Native.Nat.{◌-◌}
 use mathlib.Core.Path.{refl, sym, ◌∙◌}
 use Rattle.list.proofs.is_type.Goals as goal
 

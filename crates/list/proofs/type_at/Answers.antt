@@ -3,7 +3,6 @@ use borrow.Author.Rules.{rules}
 use native.Mathlib.Omega.{arith}
 use Rattle.list.proofs.Walks.{type_at_first, type_at_more}
 use Rattle.list.specs.Layout.{type_at}
-use Prim.Native.Nat.{◌-◌}
 use mathlib.Core.Path.{sym, ap, ◌∙◌}
 use Rattle.list.proofs.type_at.Goals as goal
 

@@ -6,7 +6,6 @@ use Rattle.base.proofs.Searched.{first_right}
 use Rattle.list.specs.Faults.{statement_rung}
 use Rattle.list.proofs.Walks.{given_first, given_more}
 use Rattle.list.specs.Layout.{statement_ok}
-use Prim.Native.Nat.{◌-◌}
 use mathlib.Core.Path.{refl, sym, ◌∙◌}
 use Rattle.list.proofs.walk_statements.Goals as goal
 

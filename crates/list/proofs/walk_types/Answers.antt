@@ -6,7 +6,6 @@ use Rattle.base.proofs.Searched.{first_right}
 use Rattle.list.specs.Faults.{type_rung}
 use Rattle.list.proofs.Walks.{type_at_first, type_at_more}
 use Rattle.list.specs.Layout.{type_ok}
-use Prim.Native.Nat.{◌-◌}
 use mathlib.Core.Path.{refl, sym, ◌∙◌}
 use Rattle.list.proofs.walk_types.Goals as goal
 

@@ -1,6 +1,5 @@
 -- `table_naming::mark_all_parts` meets its contract. Assumes nothing.
 use mathlib.Core.Path.{◌≡◌}
-use Prim.Native.Nat.{◌-◌}
 use native.Mathlib.Omega.{arith}
 use borrow.Author.Rules.{rules}
 use Rattle.table_layout.specs.Layout.{terms}

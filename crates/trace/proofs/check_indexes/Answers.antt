@@ -1,7 +1,6 @@
 -- `trace::check_indexes` meets its contract. Assumes nothing.
 use borrow.Author.Rules.{rules}
 use Rattle.answers.proofs.Ladder.{rung_found, rung_clean}
-use Prim.Native.Nat.{◌-◌}
 use Rattle.base.proofs.Searched.{first_right}
 use borrow.Author.Tests.{lt-ltb, le-ltb}
 use Rattle.trace.specs.Faults.{index_rung}
