@@ -22,7 +22,7 @@ use Rattle.types.specs.Version1.{bytes}
 use Rattle.calculus.specs.Terms.{Statement}
 use Rattle.calculus.specs.Version1.{signature1}
 use Rattle.rendering.specs.Lists.{StatementList}
-use Rattle.list.specs.Layout.{symbols, statements, statements_at, gives, given, statement_ok_at, statement_ok}
+use Rattle.list.specs.Layout.{symbols, statements_at, gives, given, statement_ok_at, statement_ok}
 use Rattle.list.specs.Faults.{type_rungs, statement_rung, list_rungs}
 use Rattle.list.specs.TypeOf.{has_type, type_bytes}
 use Rattle.list.specs.Right.{Framed}

@@ -13,7 +13,7 @@ use Rattle.entries.proofs.Words.{word_small}
 use Rattle.list.specs.Layout.{symbols, type_at}
 use Rattle.trace.specs.Layout.{supplies, index, supply}
 use Rattle.types.specs.Types.{Message}
-use Rattle.types.specs.Version1.{T, bytes}
+use Rattle.types.specs.Version1.{T}
 use Rattle.calculus.specs.Terms.{Atom}
 use Rattle.calculus.specs.Tables.{Entry}
 use Rattle.calculus.specs.Version1.{signature1}

@@ -14,7 +14,7 @@ use Rattle.codes.specs.Rows.{cell}
 use Rattle.entries.specs.Fields.{code}
 use Rattle.table_layout.specs.Layout.{symbols, terms, steps, terms_at, steps_at, term_field, term_role, step_field, step_role}
 use Rattle.table.specs.Faults.{table_rungs}
-use Rattle.calculus.specs.Terms.{operands, binders, bound}
+use Rattle.calculus.specs.Terms.{operands, bound}
 use Rattle.calculus.specs.Tables.{Entry, leaf_entry, entry_at}
 use Rattle.calculus.specs.Scope.{In, here, there, All, all_nil}
 use Rattle.calculus.specs.Version1.{signature1}

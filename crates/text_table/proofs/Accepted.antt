@@ -29,7 +29,7 @@ use Rattle.decoded.proofs.Passes.{table_passes}
 use Rattle.decoded.proofs.Checked.{table_checked}
 use Rattle.decoded.proofs.Sorts.{table_binds_variables}
 use Rattle.decoded.proofs.Unlike.{terms_unrepeated}
-use Rattle.decoded.proofs.Ranges.{binder_there, parts_lower}
+use Rattle.decoded.proofs.Ranges.{binder_there}
 use Rattle.decoded.proofs.Shapes.{TermNames, a_symbol, two_parts, term_names_lem}
 use Rattle.decoded.proofs.Steps.{sorts_length, steps_length_lem, operands_mean, binders_mean}
 use Rattle.decoded.proofs.Holding.{entry_at_lem, entries_length}

@@ -1,7 +1,7 @@
 -- `free_symbols::list_free` meets its contract. Assumes nothing.
 use mathlib.Core.Path.{◌≡◌}
 use mathlib.Core.List.{List}
-use Prim.Native.Nat.{ℕ, ◌-◌}
+use Prim.Native.Nat.{ℕ}
 use native.Mathlib.Omega.{arith}
 use Rattle.marks.specs.Put.{blank}
 use Rattle.table_layout.specs.Layout.{symbols}

@@ -1,7 +1,7 @@
 -- `free_symbols::mark_bound` meets its contract. Assumes nothing.
 use mathlib.Core.Path.{◌≡◌}
 use mathlib.Core.List.{List}
-use Prim.Native.Nat.{ℕ, ◌-◌}
+use Prim.Native.Nat.{ℕ}
 use native.Mathlib.Omega.{arith}
 use Rattle.marks.proofs.PutLaws.{put_start, put_more}
 use Rattle.table_layout.specs.Layout.{steps}

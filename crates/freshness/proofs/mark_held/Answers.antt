@@ -1,5 +1,4 @@
 -- `freshness::mark_held` meets its contract. Assumes nothing.
-use Prim.Native.Nat.{◌-◌}
 use native.Mathlib.Omega.{arith}
 use Rattle.freshness.proofs.HeldLaws.{held_start, held_more, held_end}
 use borrow.Author.Rules.{rules}

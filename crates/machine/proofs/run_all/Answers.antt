@@ -2,7 +2,6 @@
 use mathlib.Core.Path.{refl}
 use native.Mathlib.Omega.{arith}
 use borrow.Author.Rules.{rules}
-use Prim.Native.Nat.{◌-◌}
 use Rattle.machine.proofs.Progress.{run_begins, run_goes_on, run_stops, run_ends}
 use Rattle.machine.proofs.run_all.Goals as goal
 

@@ -2,7 +2,6 @@
 use native.Mathlib.Omega.{arith}
 use borrow.Author.Rules.{rules}
 use Rattle.machine.proofs.Starting.{none_given, one_given, all_given}
-use Prim.Native.Nat.{◌-◌}
 use Rattle.machine.proofs.start.Goals as goal
 
 pub loop-i-init : goal.loop-i-init

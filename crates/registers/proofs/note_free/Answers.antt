@@ -7,7 +7,7 @@ use Rattle.marks.specs.Put.{blank}
 use Rattle.table_layout.specs.Layout.{symbols as symbols_of}
 use Rattle.rendering.specs.Judge.{symbol}
 use mathlib.Core.List.{List}
-use Prim.Native.Nat.{ℕ, ◌-◌}
+use Prim.Native.Nat.{ℕ}
 use borrow.Author.Rules.{rules}
 use native.Mathlib.Omega.{arith}
 use mathlib.Core.Path.{◌≡◌, refl}

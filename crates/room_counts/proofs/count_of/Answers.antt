@@ -1,7 +1,7 @@
 -- `room_counts::count_of` meets its contract. Assumes nothing.
 use mathlib.Core.Path.{◌≡◌, sym}
 use mathlib.Core.List.{List}
-use Prim.Native.Nat.{ℕ, ◌-◌}
+use Prim.Native.Nat.{ℕ}
 use native.Mathlib.Omega.{arith}
 use Rattle.list.specs.Layout.{statements, statements_at}
 use Rattle.room_counts.specs.Room.{one_if}

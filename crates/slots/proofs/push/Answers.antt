@@ -1,6 +1,5 @@
 -- `slots::push` meets its contract: the pending terms and the types from here on give the result. Assumes nothing.
 use mathlib.Core.Path.{refl, ◌∙◌}
-use Prim.Native.Nat.{◌-◌}
 use native.Mathlib.Omega.{arith}
 use Rattle.slots.proofs.PushLaws.{walk_start, walk_done, walk_past, walk_message, walk_apart, walk_met, walk_not_pair, walk_full, walk_pair, walk_not_seal, walk_seal}
 use Rattle.slots.proofs.push.Goals as goal

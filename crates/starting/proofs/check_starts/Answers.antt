@@ -1,6 +1,6 @@
 -- `starting::check_starts` meets its contract. Assumes nothing.
 use mathlib.Core.Path.{refl, ◌∙◌}
-use Prim.Native.Nat.{ℕ, ◌-◌}
+use Prim.Native.Nat.{ℕ}
 use native.Mathlib.Omega.{arith}
 use lib.ListN.{length-replicate}
 use Rattle.starting.proofs.StartLaws.{none_yet, fewer_starts, more_starts, all_start, one_more, one_lacks}

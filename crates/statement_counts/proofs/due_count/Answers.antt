@@ -2,7 +2,7 @@
 use Rattle.statement_counts.proofs.Totals.{sum_begun, sum_more, sum_done, sum_small}
 use Rattle.statement_counts.proofs.Counts.{due_total, due_small}
 use mathlib.Core.List.{List}
-use Prim.Native.Nat.{ℕ, ◌-◌}
+use Prim.Native.Nat.{ℕ}
 use native.Mathlib.Omega.{arith}
 use mathlib.Core.Path.{sym, ◌∙◌}
 use Rattle.statement_counts.proofs.due_count.Goals as goal

@@ -1,6 +1,5 @@
 -- `type_lists::put_types` meets its contract. Assumes nothing.
 use borrow.Author.Rules.{rules}
-use Prim.Native.Nat.{◌-◌}
 use native.Mathlib.Omega.{arith}
 use Rattle.type_lists.proofs.ListLaws.{reached_none, reached_more, reached_all}
 use Rattle.type_lists.proofs.put_types.Goals as goal

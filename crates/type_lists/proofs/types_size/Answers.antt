@@ -1,6 +1,5 @@
 -- `type_lists::types_size` meets its contract. Assumes nothing.
 use borrow.Author.Rules.{rules}
-use Prim.Native.Nat.{◌-◌}
 use native.Mathlib.Omega.{arith}
 use Rattle.type_lists.proofs.ListLaws.{size_none, size_more, size_end}
 use Rattle.type_lists.proofs.types_size.Goals as goal

@@ -3,7 +3,6 @@ use Rattle.type_match.proofs.MatchLaws.{none_yet, too_few, too_many, as_many, on
 use borrow.Author.Rules.{rules}
 use mathlib.Core.Path.{refl, sym, ◌∙◌}
 use native.Mathlib.Omega.{arith}
-use Prim.Native.Nat.{◌-◌}
 use Rattle.list.proofs.Walks.{type_at_first}
 use Rattle.type_match.proofs.MatchLaws.{none_yet, too_few, too_many, as_many, one_more, one_differs, not_same, next_at}
 use Rattle.type_match.proofs.check_alike.Goals as goal

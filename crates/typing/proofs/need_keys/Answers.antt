@@ -1,6 +1,5 @@
 -- `typing::need_keys` meets its contract. Assumes nothing.
 use mathlib.Core.Path.{◌≡◌, refl}
-use Prim.Native.Nat.{◌-◌}
 use native.Mathlib.Omega.{arith}
 use borrow.Author.Rules.{rules}
 use Rattle.typing.proofs.KeyLaws.{keys_start, keys_more, keys_stop}

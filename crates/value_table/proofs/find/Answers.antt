@@ -2,7 +2,6 @@
 use mathlib.Core.Path.{refl, sym, ◌∙◌}
 use native.Mathlib.Omega.{arith}
 use borrow.Author.Rules.{rules}
-use Prim.Native.Nat.{◌-◌}
 use Rattle.base.proofs.Searched.{first_right}
 use Rattle.value_table.proofs.Finding.{place_here, place_none}
 use Rattle.value_table.proofs.find.Goals as goal

@@ -1,6 +1,5 @@
 -- `visible::visible_at` meets its contract: the pending values and the types from here on decide. Assumes nothing.
 use mathlib.Core.Path.{sym, ◌∙◌}
-use Prim.Native.Nat.{◌-◌}
 use native.Mathlib.Omega.{arith}
 use Rattle.visible.proofs.WalkLaws.{walk_start, walk_done, walk_past, walk_lacks, walk_leaf, walk_not_pair, walk_full, walk_pair}
 use Rattle.visible.proofs.visible_at.Goals as goal
