@@ -13,7 +13,7 @@ use Rattle.entries.specs.Tiling.{listed}
 use Rattle.table_layout.specs.Layout.{symbols, terms, steps, terms_at, term_field, term_role}
 use Rattle.table.specs.Faults.{table_rungs}
 use Rattle.calculus.specs.Signature.{pairing, seal}
-use Rattle.calculus.specs.Terms.{build2, Act, binders}
+use Rattle.calculus.specs.Terms.{build1, build2, Act, binders}
 use Rattle.calculus.specs.Tables.{Entry, leaf_entry, kind_entry, denoted}
 use Rattle.calculus.specs.Scope.{In, here, there}
 use Rattle.calculus.specs.Typing.{Checked}
@@ -82,7 +82,7 @@ module _ (s : List ℕ) (e : least (table_rungs s) ≡ Pass) where
       go zero h q = let z : x ≡ i = sym f ∙ q in rw z left_part
       go (suc zero) h q = let z : y ≡ i = sym g ∙ q in rw z right_part
       go (suc (suc m)) h q = absurd (omega arith)
-  part_of_lem j i (kind_entry (Rattle.calculus.specs.Terms.build1 x4 _)) _ p = elim x4 [ ]
+  part_of_lem j i (kind_entry (build1 x4 _)) _ p = elim x4 [ ]
 
   step_in : (k : ℕ) → k < steps s → In (step_at s k) (table_of s).steps
   unfolding listed
