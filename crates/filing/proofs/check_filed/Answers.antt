@@ -32,7 +32,7 @@ pub returns-in-Twin : goal.returns-in-Twin
 returns-in-Twin c =
     let a = c.args in
     let l = c.loop-i in
-    c.refuse.ensures ∙ rung_found (twin_rung a.s.now a.kind a.file a.base a.count) l.i _ l.invariant.2 c.loop-i-test.true (filed_equal a.s.now a.kind a.base l.slots l.i (slice_bytes a.s.now c.shared_slice_known-1.given) l.invariant.3 (rw c.key_at.ensures at (sym c.way_of-way.ensures ∙ c.in-Twin.is))) refl
+    c.refuse.ensures ∙ rung_found (twin_rung a.s.now a.kind a.file a.base a.count) l.i _ l.invariant.2 c.loop-i-test.true (filed_equal a.s.now a.kind a.base l.slots l.i (slice_bytes a.s.now (search rules)) l.invariant.3 (rw c.key_at.ensures at (sym c.way_of-way.ensures ∙ c.in-Twin.is))) refl
 
 pub shape_of-slots-in-Lost : goal.shape_of-slots-in-Lost
 shape_of-slots-in-Lost c = c.loop-i.invariant.1

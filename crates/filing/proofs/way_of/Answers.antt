@@ -28,13 +28,13 @@ returns-then-key_at-own c =
     sym (way_twin (key_of a.s.now a.kind a.base) a.slots.now a.own l.left l.key l.slot c.loop-left-test.true c.if-slots-slot.false c.if-held-eq0.false (sym c.key_at.ensures ∙ c.if-key_at-own.true)) ∙ l.invariant
 
 pub overflow_cast-slot : goal.overflow_cast-slot
-overflow_cast-slot c = omega (arith, c.shared_slice_known-in-loop-left-1.given c.loop-left.slot)
+overflow_cast-slot c = omega (arith, c.type_inv.slots c.loop-left.slot)
 
 pub overflow_mul-slot : goal.overflow_mul-slot
-overflow_mul-slot c = omega (arith, c.shared_slice_known-in-loop-left-1.given c.loop-left.slot)
+overflow_mul-slot c = omega (arith, c.type_inv.slots c.loop-left.slot)
 
 pub overflow_add-slot-in-loop-left : goal.overflow_add-slot-in-loop-left
-overflow_add-slot-in-loop-left c = omega (arith, c.shared_slice_known-in-loop-left-1.given c.loop-left.slot)
+overflow_add-slot-in-loop-left c = omega (arith, c.type_inv.slots c.loop-left.slot)
 
 pub loop-left-preserved : goal.loop-left-preserved
 loop-left-preserved c =

@@ -1,4 +1,5 @@
 -- `starting::start_seen` meets its contract. Assumes nothing.
+use borrow.Author.Rules.{rules}
 use mathlib.Core.List.{List}
 use Prim.Native.Nat.{ℕ, ◌-◌}
 use native.Mathlib.Omega.{arith}
@@ -16,9 +17,9 @@ unfolding index
 overflow_cast-v c =
     let a = c.args in
     let s = a.trace.now in
-    omega (arith, c.starting_at-v.ensures, word_small s (index_place (starts_at s) a.i) (slice_bytes s c.shared_slice_known-2-1.given))
+    omega (arith, c.starting_at-v.ensures, word_small s (index_place (starts_at s) a.i) (slice_bytes s (search rules)))
 
 pub returns : goal.returns
 returns c =
     let s : List ℕ = c.args.trace.now in
-    seen_there _ s _ _ _ _ _ (length s - 10) _ (slice_bytes _ c.shared_slice_known-1.given) c.visible_at.ensures (omega (arith, c.if-trace-lt10.false)) (omega (arith, c.type_at.ensures)) c.value_count-n.ensures c.starting_at-v.ensures
+    seen_there _ s _ _ _ _ _ (length s - 10) _ (slice_bytes _ (search rules)) c.visible_at.ensures (omega (arith, c.if-trace-lt10.false)) (omega (arith, c.type_at.ensures)) c.value_count-n.ensures c.starting_at-v.ensures

@@ -1,23 +1,11 @@
 -- `typing::put_pair` meets its contract. Assumes nothing.
-use mathlib.Core.Path.{◌≡◌, refl, ◌∙◌}
-use mathlib.Core.List.{List}
-use Prim.Native.Nat.{ℕ, ◌+◌, ◌≤◌}
+use mathlib.Core.Path.{refl, ◌∙◌}
+use Prim.Native.Nat.{◌+◌}
 use native.Mathlib.Omega.{arith}
-use lib.ListN.{length, length-set}
+use lib.ListN.{length-set}
 use Rattle.buffers.proofs.OverLaws.{with_rest, lent_length, rest_kept}
 use Rattle.typing.proofs.WantLaws.{slot_room, pair_put}
 use Rattle.typing.proofs.put_pair.Goals as goal
-
--- the first type has come back
-module _ (c : goal.After-slice_known-2-1) where
-  abbrev out : List ℕ
-  out = c.args.out.now
-
-  kept : length (with_rest out 4 c.put_slot-n.new.out) ≡ length out
-  kept = rest_kept out 4 c.put_slot-n.new.out c.put_slot-n.auto.out
-
-  room : c.put_slot-n.result + 1 ≤ length out
-  room = slot_room c.args.work.now out 4 c.requires _ _ _ c.put_slot-n.ensures
 
 pub slice_bounds-put_slot-count : goal.slice_bounds-put_slot-count
 slice_bounds-put_slot-count c = simp length-set (omega arith)
@@ -26,13 +14,13 @@ pub slice_bounds-put_slot-start : goal.slice_bounds-put_slot-start
 slice_bounds-put_slot-start c = simp length-set (omega arith)
 
 pub overflow_add-m : goal.overflow_add-m
-overflow_add-m c = omega (arith, room c)
+overflow_add-m c = omega (arith, slot_room c.args.work.now c.args.out.now 4 c.requires _ _ _ c.put_slot-n.ensures)
 
 pub slice_bounds-put_slot-count-2 : goal.slice_bounds-put_slot-count-2
-slice_bounds-put_slot-count-2 c = omega (arith, room c, kept c)
+slice_bounds-put_slot-count-2 c = omega (arith, slot_room c.args.work.now c.args.out.now 4 c.requires _ _ _ c.put_slot-n.ensures, rest_kept c.args.out.now 4 c.put_slot-n.new.out c.put_slot-n.auto.out)
 
 pub slice_bounds-put_slot-start-2 : goal.slice_bounds-put_slot-start-2
-slice_bounds-put_slot-start-2 c = omega (arith, room c, kept c)
+slice_bounds-put_slot-start-2 c = omega (arith, slot_room c.args.work.now c.args.out.now 4 c.requires _ _ _ c.put_slot-n.ensures, rest_kept c.args.out.now 4 c.put_slot-n.new.out c.put_slot-n.auto.out)
 
 pub shape_of-out : goal.shape_of-out
 shape_of-out c =
