@@ -1,7 +1,8 @@
 // The compile program: a role table on standard input, its list or one refusal line on standard output.
 #![tactic(auto)]
 
-ghost use Rattle.std.specs.Prelude.{◌≤◌, IfOk, length};
+ghost use Rattle.std.specs.Io.KnownBytes.{Consumes, IsAtEnd};
+ghost use Rattle.std.specs.Prelude.{◌<◌, ◌≤◌, IfOk, length, take};
 ghost use Rattle.compile.specs.Printed.{ListPrinted};
 
 use answers::Check;
@@ -21,7 +22,9 @@ fn print(table: &[u8], out: &mut [u8]) -> usize
 
 // Reads until the buffer is full or the input ends, and answers how many bytes there are.
 fn read_full<R: Read>(from: &mut R, bytes: &mut [u8]) -> io::Result<usize>
-    ensures { IfOk result (λ n. n ≤ length bytes.new) }
+    ensures room { IfOk result (λ n. n ≤ length bytes.new) }
+    ensures read { IfOk result (λ n. Consumes (R.remaining from.old) (R.remaining from.new) (take n bytes.new)) }
+    ensures whole { IfOk result (λ n. n < length bytes.new → IsAtEnd (R.remaining from.new)) }
 {
     let mut done = 0;
     while done < bytes.len() {
