@@ -9,11 +9,10 @@ use native.Mathlib.Decide.{dec_lt}
 use native.Mathlib.Omega.{arith}
 use Rattle.base.specs.Search.{Search, clean, wrong, first}
 use Rattle.base.proofs.Searched.{Found, all_are_right, first_bad, found}
-use Rattle.answers.specs.Ladder.{refusal, Rung, answered, least}
+use Rattle.answers.specs.Ladder.{refusal, Rung, answered, least, Check}
 use Rattle.answers.specs.Least.{At, Fault, here, later, Before, Least, none, lowest, Ordered, no_rung, rung}
 use Rattle.answers.specs.declared.Refusal.{Refusal}
-use Rattle.answers.specs.declared.Check.{Check}
-use Rattle.answers.specs.declared.Check.TheVariants.{Refuse}
+use Rattle.std.proofs.Common.{Err}
 
 -- what a rung's search says: it is clean and the rung has no fault, or it is the rung's first fault
 at_none : (r : Rung) → Found r.ok 0 r.count clean → (x : Refusal) → At r x → ⊥
@@ -67,7 +66,7 @@ pub least_one : (rs : List Rung) {a b : Check} → Least rs a → Least rs b →
 least_one rs (none n) (none m) = refl
 least_one rs (none n) (lowest {x = x} f m) = absurd (n x f)
 least_one rs (lowest {x = x} f m) (none n) = absurd (n x f)
-least_one rs (lowest {x = x} f m) (lowest {x = y} g n) = ap Refuse (same (m y g) (n x f))
+least_one rs (lowest {x = x} f m) (lowest {x = y} g n) = ap Err (same (m y g) (n x f))
   where
     same : Before x y → Before y x → x ≡ y
     same (inl h) (inl k) = absurd (omega arith)

@@ -1,5 +1,6 @@
 -- Laws of the ladder, for the proofs of the readers.
 pub mod Ladder
+pub mod Finds
 pub mod Layers
 pub mod Passes
 pub mod Refused

@@ -6,33 +6,32 @@ use Prim.Native.Nat.{ℕ, ◌<◌}
 use native.Mathlib.Omega.{arith}
 use Rattle.base.specs.Search.{Search, clean, wrong, first}
 use Rattle.base.proofs.Searched.{Found, all_are_right, first_bad, found}
-use Rattle.answers.specs.Ladder.{refusal, Rung, whole, answered, least, and_then}
+use Rattle.answers.specs.Ladder.{refusal, Rung, whole, answered, least, and_then, Check}
 use Rattle.answers.proofs.Ladder.{least_none, least_append}
-use Rattle.answers.specs.declared.Check.{Check}
-use Rattle.answers.specs.declared.Check.TheVariants.{Pass, Refuse}
+use Rattle.std.proofs.Common.{Ok, Err}
 
 -- where the rungs pass, the first one's things are all in order, and the others pass
 data Passed (r : Rung) (rs : List Rung) : Type 0 where
-  passed : ((i : ℕ) → i < r.count → r.ok i ≡ true) → least rs ≡ Pass → Passed r rs
+  passed : ((i : ℕ) → i < r.count → r.ok i ≡ true) → least rs ≡ Ok tt → Passed r rs
 
-rung_passed : (r : Rung) (rs : List Rung) → least (r ∷ rs) ≡ Pass → Passed r rs
+rung_passed : (r : Rung) (rs : List Rung) → least (r ∷ rs) ≡ Ok tt → Passed r rs
 unfolding least
 rung_passed r rs e = go (first r.ok 0 r.count) (found r.ok 0 r.count (omega arith)) e
   where
-    go : (s : Search) → Found r.ok 0 r.count s → answered r s (least rs) ≡ Pass → Passed r rs
+    go : (s : Search) → Found r.ok 0 r.count s → answered r s (least rs) ≡ Ok tt → Passed r rs
     go clean (all_are_right f) e = passed (λ i h. f i (omega arith) h) (unfold answered in e)
-    go (wrong i) f e = let q : Refuse (refusal r.number r.file (r.place i)) ≡ Pass = (unfold answered in e) in let z : ◌≡◌ {A = ℕ} 0 1 = cc in absurd (omega arith)
+    go (wrong i) f e = let q : Err (refusal r.number r.file (r.place i)) ≡ (Ok tt) = (unfold answered in e) in let z : ◌≡◌ {A = ℕ} 0 1 = cc in absurd (omega arith)
 
-pub first_passed : (r : Rung) (rs : List Rung) → least (r ∷ rs) ≡ Pass → (i : ℕ) → i < r.count → r.ok i ≡ true
+pub first_passed : (r : Rung) (rs : List Rung) → least (r ∷ rs) ≡ Ok tt → (i : ℕ) → i < r.count → r.ok i ≡ true
 first_passed r rs e = go (rung_passed r rs e)
   where
     go : Passed r rs → (i : ℕ) → i < r.count → r.ok i ≡ true
     go (passed f q) = f
 
-pub rest_passed : (r : Rung) (rs : List Rung) → least (r ∷ rs) ≡ Pass → least rs ≡ Pass
+pub rest_passed : (r : Rung) (rs : List Rung) → least (r ∷ rs) ≡ Ok tt → least rs ≡ Ok tt
 rest_passed r rs e = go (rung_passed r rs e)
   where
-    go : Passed r rs → least rs ≡ Pass
+    go : Passed r rs → least rs ≡ Ok tt
     go (passed f q) = q
 
 -- and the other way: a rung whose things are all in order leaves the answer to the others
@@ -45,17 +44,17 @@ rung_right r rs f = go (first r.ok 0 r.count) (found r.ok 0 r.count (omega arith
     go (wrong i) (first_bad p q e g) = let h = f i q in let z : ◌≡◌ {A = ℕ} 0 1 = cc in absurd (omega arith)
 
 -- a rung by itself passes exactly if each of its things is in order
-pub rung_passes : (r : Rung) → ((i : ℕ) → i < r.count → r.ok i ≡ true) → least (r ∷ []) ≡ Pass
+pub rung_passes : (r : Rung) → ((i : ℕ) → i < r.count → r.ok i ≡ true) → least (r ∷ []) ≡ Ok tt
 rung_passes r f = rung_right r [] f ∙ least_none
 
 -- a test of the whole file that passes is right, and the others pass
-pub whole_passed : (n f : ℕ) (b : Bool) (rs : List Rung) → least (whole n f b ∷ rs) ≡ Pass → (b ≡ true) × (least rs ≡ Pass)
+pub whole_passed : (n f : ℕ) (b : Bool) (rs : List Rung) → least (whole n f b ∷ rs) ≡ Ok tt → (b ≡ true) × (least rs ≡ Ok tt)
 whole_passed n f b rs e = (first_passed (whole n f b) rs e 0 (omega arith), rest_passed (whole n f b) rs e)
 
 -- two layers pass exactly if each does
-pub layers_passed : (xs ys : List Rung) → least (xs ++ ys) ≡ Pass → (least xs ≡ Pass) × (least ys ≡ Pass)
+pub layers_passed : (xs ys : List Rung) → least (xs ++ ys) ≡ Ok tt → (least xs ≡ Ok tt) × (least ys ≡ Ok tt)
 layers_passed xs ys e = go (least xs) refl (sym (least_append xs ys) ∙ e)
   where
-    go : (a : Check) → least xs ≡ a → and_then a (least ys) ≡ Pass → (least xs ≡ Pass) × (least ys ≡ Pass)
-    go Pass q e = (q, e)
-    go (Refuse x) q e = let z : ◌≡◌ {A = ℕ} 0 1 = cc in absurd (omega arith)
+    go : (a : Check) → least xs ≡ a → and_then a (least ys) ≡ Ok tt → (least xs ≡ Ok tt) × (least ys ≡ Ok tt)
+    go (Ok tt) q e = (q, e)
+    go (Err x) q e = let z : ◌≡◌ {A = ℕ} 0 1 = cc in absurd (omega arith)

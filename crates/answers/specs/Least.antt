@@ -1,9 +1,7 @@
 -- What "the least fault" means: the lowest number, and within a number the lowest place. Assumes nothing: these are definitions.
-use Rattle.std.specs.Prelude.{◌≡◌, false, ◌⊎◌, List, [], ◌∷◌, ℕ, ◌≤◌, ◌<◌}
-use Rattle.answers.specs.Ladder.{refusal, Rung}
+use Rattle.std.specs.Prelude.{◌≡◌, false, ◌⊎◌, List, [], ◌∷◌, ℕ, ◌≤◌, ◌<◌, Ok, Err}
+use Rattle.answers.specs.Ladder.{refusal, Rung, Check}
 use Rattle.answers.specs.declared.Refusal.{Refusal}
-use Rattle.answers.specs.declared.Check.{Check}
-use Rattle.answers.specs.declared.Check.TheVariants.{Pass, Refuse}
 
 -- a thing of the rung is out of order, and this is its refusal
 pub record At (r : Rung) (x : Refusal) : Type 0 where
@@ -23,8 +21,8 @@ Before x y = (x.number < y.number) ⊎ ((x.number ≡ y.number) × (x.file ≡ y
 
 -- an answer is the least fault, or there is none
 pub data Least (rs : List Rung) : Check → Type 0 where
-  none : ((x : Refusal) → Fault x rs → ⊥) → Least rs Pass
-  lowest : {x : Refusal} → Fault x rs → ((y : Refusal) → Fault y rs → Before x y) → Least rs (Refuse x)
+  none : ((x : Refusal) → Fault x rs → ⊥) → Least rs (Ok tt)
+  lowest : {x : Refusal} → Fault x rs → ((y : Refusal) → Fault y rs → Before x y) → Least rs (Err x)
 
 -- the rungs stand in order: places rise along a rung, and every fault of a rung comes before every fault of a later one
 pub data Ordered : List Rung → Type 0 where

@@ -1,10 +1,20 @@
-// The refusal: one number with its file and place. Each layer of a reader answers a `Check`, and a refusal is passed on whole.
+// The refusal: one number with its file and place. Each layer of a reader answers a `Check`, and `?` passes a refusal on whole.
 #![tactic(auto)]
 
-ghost use Rattle.std.specs.Prelude.{◌≡◌};
+ghost use Rattle.std.specs.Prelude.{◌≡◌, Err};
 ghost use Rattle.answers.specs.Ladder.{refusal};
+ghost use Rattle.answers.specs.Files.{file_number};
 
-#[derive(Drop)]
+// The three files, and a lent buffer. A refusal names one by its number, which C is given too: 0 to 3 in this order.
+#[derive(Clone, Copy, PartialEq, Eq)]
+pub enum File {
+    Table,
+    List,
+    Trace,
+    Buffer,
+}
+
+#[derive(Clone, Copy, PartialEq, Eq)]
 pub struct Refusal {
     pub number: u8,
     pub file: u8,
@@ -12,18 +22,14 @@ pub struct Refusal {
 }
 
 // What a layer of tests answers: go on, or the refusal.
-#[derive(Drop)]
-pub enum Check {
-    Pass,
-    Refuse(Refusal),
-}
+pub type Check = Result<(), Refusal>;
 
-pub fn refuse(number: u8, file: u8, place: usize) -> Check
-    ensures { result ≡ Check.Refuse (refusal number file place) }
+pub fn refuse(number: u8, file: File, place: usize) -> Check
+    ensures { result ≡ Err (refusal number (file_number file) place) }
 {
-    Check::Refuse(Refusal {
+    Err(Refusal {
         number,
-        file,
+        file: file as u8,
         place: place as u64,
     })
 }

@@ -3,3 +3,4 @@ pub mod Searched
 pub mod Bounds
 pub mod SomeLaws
 pub mod BothLaws
+pub mod Ranges

@@ -27,13 +27,6 @@ first_end ok i n h =
     let s : n - i ≡ 0 = omega arith in
     rw s
 
--- a loop that asks whether all are right, and has come to i: it stops at a wrong one, or at the end
-pub all_stop : (ok : ℕ → Bool) (i n : ℕ) → first ok 0 n ≡ first ok i n → i < n → ok i ≡ false → false ≡ all_right (first ok 0 n)
-all_stop ok i n q h e = rw (q, first_wrong_lem ok i n h e)
-
-pub all_end : (ok : ℕ → Bool) (i n : ℕ) → first ok 0 n ≡ first ok i n → n ≤ i → true ≡ all_right (first ok 0 n)
-all_end ok i n q h = rw (q, first_end ok i n h)
-
 -- what a search says of its range: i is the first number at which ok fails, or there is none
 pub data Found (ok : ℕ → Bool) (i n : ℕ) : Search → Type 0 where
   all_are_right : ((k : ℕ) → i ≤ k → k < n → ok k ≡ true) → Found ok i n clean

@@ -2,47 +2,31 @@
 // A writer that finds its buffer too short answers false and writes nothing. To write mid-buffer, lend a part that starts there.
 #![tactic(auto)]
 
-ghost use Rattle.std.specs.Prelude.{◌≡◌, [], ◌∷◌, ◌≤◌, leb, length};
-ghost use Rattle.buffers.specs.Over.{over, over_if};
-
-// Copies bytes that fit.
-fn copy_all(out: &mut [u8], bytes: &[u8])
-    requires { length bytes.now ≤ length out.old }
-    ensures { out.new ≡ over bytes.now out.old }
-{
-    let mut i = 0;
-    while i < bytes.len() {
-        out[i] = bytes[i];
-        i += 1;
-    }
-}
+ghost use Rattle.std.specs.Prelude.{◌≡◌, ◌+◌, ◌<◌, ◌≤◌, leb, length};
+ghost use Rattle.buffers.specs.Over.{over_if, Appended};
 
 // Copies bytes.
+#[tactic(auto, unfolding(crate::specs::Over::over))]
 pub fn copy(out: &mut [u8], bytes: &[u8]) -> bool
     ensures fits { result ≡ leb (length bytes.now) (length out.old) }
     ensures written { out.new ≡ over_if bytes.now out.old }
 {
-    if bytes.len() <= out.len() {
-        copy_all(out, bytes);
-        return true;
+    if bytes.len() > out.len() {
+        return false;
     }
-    false
+    out[..bytes.len()].copy_from_slice(bytes);
+    true
 }
 
-// Writes four bytes: a statement.
-pub fn put_four(out: &mut [u8], a: u8, b: u8, c: u8, d: u8) -> bool
-    ensures fits { result ≡ leb 4 (length out.old) }
-    ensures written { out.new ≡ over_if (a ∷ b ∷ c ∷ d ∷ []) out.old }
+// Copies bytes to a place, and answers the place after them. Bytes that do not fit there are not copied, and the place is answered.
+#[tactic(auto, using(crate::proofs::OverLaws::part_appended))]
+pub fn append(out: &mut [u8], at: usize, bytes: &[u8]) -> usize
+    ensures appended { at + length bytes.now ≤ length out.old → Appended bytes.now at out.old out.new result }
+    ensures short { length out.old < at + length bytes.now → (out.new ≡ out.old) × (result ≡ at) }
 {
-    let bytes = [a, b, c, d];
-    copy(out, &bytes)
-}
-
-// Writes five bytes: a value, or a message of a run.
-pub fn put_five(out: &mut [u8], a: u8, b: u8, c: u8, d: u8, e: u8) -> bool
-    ensures fits { result ≡ leb 5 (length out.old) }
-    ensures written { out.new ≡ over_if (a ∷ b ∷ c ∷ d ∷ e ∷ []) out.old }
-{
-    let bytes = [a, b, c, d, e];
-    copy(out, &bytes)
+    if at > out.len() || bytes.len() > out.len() - at {
+        return at;
+    }
+    copy(&mut out[at..], bytes);
+    at + bytes.len()
 }

@@ -2,19 +2,14 @@
 // version that knows it and the role of each field. Request a), e) and h) of document 02 add rows, and no reader changes.
 #![tactic(auto)]
 
-ghost use Rattle.std.specs.Prelude.{◌≡◌, leb};
+ghost use Rattle.std.specs.Prelude.{◌≡◌};
 ghost use Rattle.codes.specs.Rows.{cell, fields, field_bytes, width, known, atom_kinds, limits_of};
 ghost use Rattle.codes.specs.Types.{type_parts, type_known};
 ghost use Rattle.codes.specs.Marks.{mark, header};
+ghost use Rattle.codes.specs.Kinds.{kind_number};
+ghost use Rattle.answers.specs.Files.{file_number};
 
-// The three files, and a lent buffer, as a refusal names them.
-pub const TABLE: u8 = 0;
-
-pub const LIST: u8 = 1;
-
-pub const TRACE: u8 = 2;
-
-pub const BUFFER: u8 = 3;
+use answers::File;
 
 // The mark of each file, and the bytes of its header.
 const MARKS: [u8; 9] = *b"SPTSPLSPX";
@@ -22,27 +17,29 @@ const MARKS: [u8; 9] = *b"SPTSPLSPX";
 const HEADERS: [u8; 3] = [8, 8, 10];
 
 // Byte j of a file's mark.
-pub fn mark_byte(file: u8, j: u8) -> u8
-    ensures { result ≡ mark file j }
+#[tactic(auto, unfolding(crate::specs::Marks::mark))]
+pub fn mark_byte(file: File, j: u8) -> u8
+    ensures { result ≡ mark (file_number file) j }
 {
-    base::byte_at(&MARKS, base::wide(file) * 3 + base::wide(j))
+    base::byte_at(&MARKS, file as usize * 3 + j as usize)
 }
 
 // The bytes of a file's header.
-pub fn header_bytes(file: u8) -> usize
-    ensures { result ≡ header file }
+#[tactic(auto, unfolding(crate::specs::Marks::header))]
+pub fn header_bytes(file: File) -> usize
+    ensures { result ≡ header (file_number file) }
 {
-    base::wide(base::byte_at(&HEADERS, base::wide(file)))
+    base::byte_at(&HEADERS, file as usize) as usize
 }
 
-// The four kinds of entries.
-pub const TERM: u8 = 0;
-
-pub const STEP: u8 = 1;
-
-pub const STATEMENT: u8 = 2;
-
-pub const VALUE: u8 = 3;
+// The four kinds of entries, in the order of their rows.
+#[derive(Clone, Copy, PartialEq, Eq)]
+pub enum Kind {
+    Term,
+    Step,
+    Statement,
+    Value,
+}
 
 // The roles of a field: not used; a lower entry; a symbol; an atom's kind; any number; a term; a name that is bound; a variable
 // that is bound; a register. Each is an index into the limits of an entry.
@@ -100,97 +97,60 @@ const FIELD_BYTES: [u8; 4] = [1, 1, 1, 2];
 const ENTRY_BYTES: [u8; 4] = [3, 5, 4, 5];
 
 // A column of the row of a code.
-pub fn cell_at(kind: u8, op: u8, column: u16) -> u8
-    ensures { result ≡ cell kind op column }
+#[tactic(auto, unfolding(crate::specs::Rows::cell))]
+pub fn cell_at(kind: Kind, op: u8, column: u16) -> u8
+    ensures { result ≡ cell (kind_number kind) op column }
 {
-    let row = base::wide(base::byte_at(&FIRST, base::wide(kind))) + base::wide(op);
+    let row = base::byte_at(&FIRST, kind as usize) as usize + op as usize;
     base::byte_at(&ROWS, row * 5 + column as usize)
 }
 
 // The number of fields of an entry.
-pub fn field_count(kind: u8) -> u8
-    ensures { result ≡ fields kind }
+#[tactic(auto, unfolding(crate::specs::Rows::fields))]
+pub fn field_count(kind: Kind) -> u8
+    ensures { result ≡ fields (kind_number kind) }
 {
-    base::byte_at(&FIELDS, base::wide(kind))
+    base::byte_at(&FIELDS, kind as usize)
 }
 
 // The bytes of a field of an entry.
-pub fn field_bytes(kind: u8) -> u8
-    ensures { result ≡ field_bytes kind }
+#[tactic(auto, unfolding(crate::specs::Rows::field_bytes))]
+pub fn field_bytes(kind: Kind) -> u8
+    ensures { result ≡ field_bytes (kind_number kind) }
 {
-    base::byte_at(&FIELD_BYTES, base::wide(kind))
+    base::byte_at(&FIELD_BYTES, kind as usize)
 }
 
 // The bytes of an entry: its code, then its fields.
-pub fn entry_bytes(kind: u8) -> usize
-    ensures { result ≡ width kind }
+#[tactic(auto, unfolding(crate::specs::Rows::width))]
+pub fn entry_bytes(kind: Kind) -> usize
+    ensures { result ≡ width (kind_number kind) }
 {
-    base::wide(base::byte_at(&ENTRY_BYTES, base::wide(kind)))
+    base::byte_at(&ENTRY_BYTES, kind as usize) as usize
 }
 
-// The row's first column says since which version the code is known.
-fn since(kind: u8, version: usize, op: u8) -> bool
-    ensures { result ≡ leb (cell kind op 0) version }
+// Whether a version knows the code of an entry of a kind. A known code has a row, whose first column says since which version.
+// Document 01 asks for a match here, with a range for unknown codes.
+#[tactic(auto, unfolding(crate::specs::Rows::known, crate::specs::Rows::rows, base::specs::Bytes::byte))]
+pub fn code_known(kind: Kind, version: usize, op: u8) -> bool
+    ensures { result ≡ known (kind_number kind) version op }
 {
-    base::wide(cell_at(kind, op, 0)) <= version
-}
-
-fn term_known(version: usize, op: u8) -> bool
-    ensures { result ≡ known 0 version op }
-{
-    match op {
-        0..=2 => since(TERM, version, op),
-        3..=255 => false,
-    }
-}
-
-fn step_known(version: usize, op: u8) -> bool
-    ensures { result ≡ known 1 version op }
-{
-    match op {
-        0..=5 => since(STEP, version, op),
-        6..=255 => false,
-    }
-}
-
-fn statement_known(version: usize, op: u8) -> bool
-    ensures { result ≡ known 2 version op }
-{
-    match op {
-        0..=8 => since(STATEMENT, version, op),
-        9..=255 => false,
-    }
-}
-
-fn value_known(version: usize, op: u8) -> bool
-    ensures { result ≡ known 3 version op }
-{
-    match op {
-        0..=2 => since(VALUE, version, op),
-        3..=255 => false,
-    }
-}
-
-// Whether a version knows the code of an entry of a kind.
-pub fn code_known(kind: u8, version: usize, op: u8) -> bool
-    ensures { result ≡ known kind version op }
-{
-    match kind {
-        0 => term_known(version, op),
-        1 => step_known(version, op),
-        2 => statement_known(version, op),
-        3 => value_known(version, op),
-        4..=255 => false,
+    match (kind, op) {
+        (Kind::Term | Kind::Value, 0..=2) | (Kind::Step, 0..=5) | (Kind::Statement, 0..=8) => {
+            cell_at(kind, op, 0) as usize <= version
+        }
+        (_, 0..=255) => false,
     }
 }
 
 // The atom kinds that a version knows.
 const ATOM_KINDS: [u8; 2] = [0, 3];
 
+#[tactic(auto, unfolding(crate::specs::Rows::atom_kinds))]
 pub fn atom_kinds(version: usize) -> usize
     ensures { result ≡ atom_kinds version }
 {
-    base::wide(base::byte_at(&ATOM_KINDS, version))
+    base::byte_at(&ATOM_KINDS, version) as usize
 }
 
 // The limit of each role's number: a field is in range if it lies below the limit of its role. An unused field is 0.
@@ -219,18 +179,20 @@ const TYPES: [u8; 12] = [
 ];
 
 // How many types follow a type code.
+#[tactic(auto, unfolding(crate::specs::Types::type_parts))]
 pub fn type_parts(code: u8) -> usize
     ensures { result ≡ type_parts code }
 {
-    base::wide(base::byte_at(&TYPES, base::wide(code) * 2 + 1))
+    base::byte_at(&TYPES, code as usize * 2 + 1) as usize
 }
 
 // Whether a version knows the type code.
+#[tactic(auto, unfolding(crate::specs::Types::type_known))]
 pub fn type_known(version: usize, code: u8) -> bool
     ensures { result ≡ type_known version code }
 {
     match code {
-        0..=5 => base::wide(base::byte_at(&TYPES, base::wide(code) * 2)) <= version,
+        0..=5 => base::byte_at(&TYPES, code as usize * 2) as usize <= version,
         6..=255 => false,
     }
 }

@@ -6,8 +6,6 @@ use native.Mathlib.Omega.{arith}
 use lib.ListN.{length, take, drop, length-append}
 use lib.Seq.{take-append_seam}
 use Rattle.answers.specs.declared.Refusal.{Refusal}
-use Rattle.answers.specs.declared.Check.{Check}
-use Rattle.answers.specs.declared.Check.TheVariants.{Pass, Refuse}
 use Rattle.entries.specs.Tiling.{listed, joined}
 use Rattle.table_layout.specs.Layout.{symbols}
 use Rattle.types.specs.Version1.{bytes}
@@ -26,6 +24,7 @@ use Rattle.compile_service.proofs.ReadBack.{widest_short}
 use Rattle.lines.specs.Lines.{LinePut}
 use Rattle.lines.proofs.LineLaws.{counted}
 use Rattle.compile.specs.Printed.{a_list, a_line, ListPrinted}
+use Rattle.std.proofs.Common.{Result, Ok, Err}
 
 -- types of at most 129 bytes, with their length bytes
 types_short : (Γ : Env signature1) (i n : ℕ) → ((x : ℕ) → length (bytes (Γ x)) ≤ 129) → length (types_bytes (listed Γ i n)) ≤ 130 * n
@@ -50,18 +49,20 @@ unfolding over
 over_longer w z = omega (arith, length-append w (drop (length w) z))
 
 -- a list
-pub list_printed : (s z o : List ℕ) (a : Check) (n : ℕ) → Answered (list_file s) s z o a n → a ≡ Pass → ListPrinted s z o n
+pub list_printed : (s z o : List ℕ) (a : Result ℕ Refusal) (n : ℕ) → Answered (list_file s) s z o a → a ≡ Ok n → ListPrinted s z o n
 list_printed s z o a n (table_refused r) e = let y : ◌≡◌ {A = ℕ} 0 1 = cc in absurd (omega arith)
 list_printed s z o a n (too_short t l) e = let y : ◌≡◌ {A = ℕ} 0 1 = cc in absurd (omega arith)
-list_printed s z o a n (written {Γ = Γ} t l) e = record {
-  inside = over_longer (list_file s Γ) z;
-  counted = counted _ _ (over_longer (list_file s Γ) z);
-  text = λ h. a_list t (taken (list_file s Γ) z);
-}
+list_printed s z o a n (written {Γ = Γ} t l) e =
+    let m : length (list_file s Γ) ≡ n = cc in
+    rw (← m) (record {
+      inside = over_longer (list_file s Γ) z;
+      counted = counted _ _ (over_longer (list_file s Γ) z);
+      text = λ h. a_list t (taken (list_file s Γ) z);
+    })
 
 -- a line
-pub line_printed : (s z o : List ℕ) (a : Check) (n : ℕ) (x : Refusal) (p : List ℕ) (r : ℕ) → Answered (list_file s) s z o a n → a ≡ Refuse x → LinePut x o p r → ListPrinted s z p r
-line_printed s z o a n x p r (table_refused {x = y} q) e l = record {
+pub line_printed : (s z o : List ℕ) (a : Result ℕ Refusal) (x : Refusal) (p : List ℕ) (r : ℕ) → Answered (list_file s) s z o a → a ≡ Err x → LinePut x o p r → ListPrinted s z p r
+line_printed s z o a x p r (table_refused {x = y} q) e l = record {
   inside = l.inside;
   counted = l.counted;
   text = λ h.
@@ -69,9 +70,9 @@ line_printed s z o a n x p r (table_refused {x = y} q) e l = record {
       let g : y ≡ x = cc in
       a_line (rw g at q) (rw (w, m, taken line z) of);
 }
-line_printed s z o a n x p r (too_short {Γ = Γ} t q) e l = record {
+line_printed s z o a x p r (too_short {Γ = Γ} t q) e l = record {
   inside = l.inside;
   counted = l.counted;
   text = λ h. absurd (omega (arith, list_short s Γ t));
 }
-line_printed s z o a n x p r (written t q) e l = let y : ◌≡◌ {A = ℕ} 0 1 = cc in absurd (omega arith)
+line_printed s z o a x p r (written t q) e l = let y : ◌≡◌ {A = ℕ} 0 1 = cc in absurd (omega arith)

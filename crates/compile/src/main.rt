@@ -5,19 +5,16 @@ ghost use Rattle.std.specs.Io.KnownBytes.{Consumes, IsAtEnd};
 ghost use Rattle.std.specs.Prelude.{◌<◌, ◌≤◌, IfOk, length, take};
 ghost use Rattle.compile.specs.Printed.{ListPrinted};
 
-use answers::Check;
 use std::io::{self, Read, Write};
 
 // What is written for a table, at the start of a buffer of 16,384 bytes, and its length.
 fn print(table: &[u8], out: &mut [u8]) -> usize
     ensures { ListPrinted table.now out.old out.new result }
 {
-    let w = compile_service::compile(table, out);
-    let check = w.check;
-    let Check::Refuse(x) = check else {
-        return w.bytes;
-    };
-    lines::put_refusal(out, x)
+    match compile_service::compile(table, out) {
+        Ok(n) => n,
+        Err(x) => lines::put_refusal(out, x),
+    }
 }
 
 // Reads until the buffer is full or the input ends, and answers how many bytes there are.

@@ -5,7 +5,6 @@ use Prim.Native.Nat.{ℕ, zero, suc, ◌≤◌}
 use native.Mathlib.Omega.{arith}
 use lib.ListN.{length, take, drop}
 use lib.Seq.{take-append_seam}
-use Rattle.answers.specs.declared.Check.TheVariants.{Pass}
 use Rattle.entries.specs.Tiling.{listed}
 use Rattle.entries.proofs.Tiling.{listed_length}
 use Rattle.table_layout.specs.Layout.{symbols, steps}
@@ -27,6 +26,7 @@ use Rattle.compiled.proofs.Compiled.{compiled_passes, compiled_statements, compi
 use Rattle.type_service.specs.Services.{IsWidest, Answered, written}
 use Rattle.compile_service.specs.Files.{list_file, ReadsBack}
 use Rattle.compile_service.proofs.FileLaws.{few_statements}
+use Rattle.std.proofs.Common.{Ok}
 
 each_listed : {P : T → Type 0} (Γ : Env signature1) (i n : ℕ) → ((x : ℕ) → P (Γ x)) → All P (listed Γ i n)
 unfolding listed
@@ -59,6 +59,6 @@ module _ (s : List ℕ) (Γ : Env signature1) (t : IsWidest s Γ) where
   }
 
 -- what the service wrote is
-pub written_reads_back : (s z o : List ℕ) (n : ℕ) → Answered (list_file s) s z o Pass n → (Γ : Env signature1) × IsWidest s Γ × ReadsBack s Γ (take n o)
+pub written_reads_back : (s z o : List ℕ) (n : ℕ) → Answered (list_file s) s z o (Ok n) → (Γ : Env signature1) × IsWidest s Γ × ReadsBack s Γ (take n o)
 unfolding over
 written_reads_back s z o n (written {Γ = Γ} t l) = (Γ, t, rw (take-append_seam (list_file s Γ) (drop (length (list_file s Γ)) z)) (file_reads_back s Γ t))

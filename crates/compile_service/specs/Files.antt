@@ -1,7 +1,6 @@
 -- The file that the compile service writes, and what is read of it again. Assumes nothing: these are definitions.
-use Rattle.std.specs.Prelude.{◌≡◌, List, ℕ, ◌≤◌, ◌<◌}
+use Rattle.std.specs.Prelude.{◌≡◌, List, ℕ, ◌≤◌, ◌<◌, Ok}
 use Rattle.answers.specs.Ladder.{least}
-use Rattle.answers.specs.declared.Check.TheVariants.{Pass}
 use Rattle.table_layout.specs.Layout.{symbols}
 use Rattle.list.specs.Layout.{statements}
 use Rattle.list.specs.Faults.{list_rungs}
@@ -23,7 +22,7 @@ list_file s Γ = list_bytes (compiled s (types_to Γ (symbols s)))
 -- a list that has no fault 1 to 5, gives the translation of the table back, has at most 256 statements, and of which `type_of`
 -- hands out the types of Γ
 pub record ReadsBack (s : List ℕ) (Γ : Env signature1) (l : List ℕ) : Type 0 where
-  pub passes : least (list_rungs l (free_count s)) ≡ Pass
+  pub passes : least (list_rungs l (free_count s)) ≡ Ok tt
   pub gives_back : statements_of l ≡ translation signature1 halves (table_of s)
   pub few_statements : statements l ≤ 256
   pub hands_out : (x : ℕ) → x < symbols s → type_bytes l x ≡ bytes (Γ x)

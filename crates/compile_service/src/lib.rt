@@ -8,8 +8,7 @@ ghost use Rattle.decoded_list.specs.Bytes.{header_bytes};
 ghost use Rattle.type_service.specs.Services.{Answered};
 ghost use Rattle.compile_service.specs.Files.{list_file};
 
-use answers::Check;
-use type_service::Written;
+use answers::{File, Refusal};
 
 // Writes the header of a list: mark, version 1, S, and N with its high byte first.
 fn put_header(out: &mut [u8], symbols: u8, statements: usize)
@@ -17,9 +16,9 @@ fn put_header(out: &mut [u8], symbols: u8, statements: usize)
     ensures { out.new ≡ over (header_bytes symbols statements) out.old }
 {
     let header = [
-        codes::mark_byte(codes::LIST, 0),
-        codes::mark_byte(codes::LIST, 1),
-        codes::mark_byte(codes::LIST, 2),
+        codes::mark_byte(File::List, 0),
+        codes::mark_byte(File::List, 1),
+        codes::mark_byte(File::List, 2),
         0,
         1,
         symbols,
@@ -29,28 +28,19 @@ fn put_header(out: &mut [u8], symbols: u8, statements: usize)
     buffers::copy(out, &header);
 }
 
-// The statement list of a table.
-pub fn compile(table: &[u8], out: &mut [u8]) -> Written
-    ensures { Answered (list_file table.now) table.now out.old out.new result.check result.bytes }
+// The statement list of a table: a refusal, or the number of bytes written.
+pub fn compile(table: &[u8], out: &mut [u8]) -> Result<usize, Refusal>
+    ensures { Answered (list_file table.now) table.now out.old out.new result }
 {
     let mut work = [0u8; 12384];
-    let a = type_service::type_slots(table, &mut work);
-    let Check::Pass = a else {
-        return Written { check: a, bytes: 0 };
-    };
+    type_service::type_slots(table, &mut work)?;
     let s = table_layout::symbol_count(table);
     let n = statement_counts::statement_count(table);
     let at = 8 + type_lists::types_size(&work, s);
     let need = at + 4 * n;
-    let b = type_service::check_room(out, need);
-    let Check::Pass = b else {
-        return Written { check: b, bytes: 0 };
-    };
+    type_service::check_room(out, need)?;
     put_header(out, s, n);
     type_lists::put_types(&mut out[8..], &work, s);
     translate::write_statements(table, &mut out[at..]);
-    Written {
-        check: Check::Pass,
-        bytes: need,
-    }
+    Ok(need)
 }

@@ -6,7 +6,6 @@ use Prim.Native.Nat.{ℕ, ◌<◌, ◌≤◌}
 use native.Mathlib.Omega.{arith}
 use lib.ListN.{length, get_or, length-map}
 use Rattle.answers.specs.Ladder.{least}
-use Rattle.answers.specs.declared.Check.TheVariants.{Pass}
 use Rattle.entries.proofs.Tiling.{listed_length}
 use Rattle.table_layout.specs.Layout.{symbols}
 use Rattle.table.specs.Faults.{table_rungs}
@@ -33,8 +32,9 @@ use Rattle.decoded.proofs.Tabled.{counts_small}
 use Rattle.statement_counts.proofs.Ranged.{in_range}
 use Rattle.compiled.specs.Compiled.{compiled}
 use Rattle.compiled.proofs.Rendered.{Nameable, dues_fit, follows_fit}
+use Rattle.std.proofs.Common.{Ok}
 
-module _ (s : List ℕ) (e : least (table_rungs s) ≡ Pass) where
+module _ (s : List ℕ) (e : least (table_rungs s) ≡ Ok tt) where
   -- N is at most 256, and each register that is named is below 256
   sizes : (length (translation signature1 halves (table_of s)) ≤ 256) × All Nameable (translation signature1 halves (table_of s))
   sizes =
@@ -61,7 +61,7 @@ module _ (s : List ℕ) (e : least (table_rungs s) ≡ Pass) where
     }
 
     -- its file passes 1 to 5
-    pub compiled_passes : least (list_rungs (list_bytes (compiled s As)) (free_count s)) ≡ Pass
+    pub compiled_passes : least (list_rungs (list_bytes (compiled s As)) (free_count s)) ≡ Ok tt
     compiled_passes = file_passes (compiled s As) (free_count s) translation_in_form
 
     -- and what is read of it is the translation, and the types

@@ -8,7 +8,6 @@ use native.Mathlib.Omega.{arith}
 use lib.ListN.{length}
 use Rattle.base.proofs.BothLaws.{clash}
 use Rattle.answers.specs.Ladder.{least}
-use Rattle.answers.specs.declared.Check.TheVariants.{Pass}
 use Rattle.table_layout.specs.Layout.{symbols, steps, sort}
 use Rattle.table.specs.Faults.{table_rungs}
 use Rattle.calculus.specs.Terms.{Act, map_act, operands, binders, bound}
@@ -29,6 +28,7 @@ use Rattle.decoded.proofs.Ranges.{parts_lower, terms_there, binder_there, name_b
 use Rattle.decoded.proofs.Shapes.{step_uses, step_binds, step_apart, step_fresh}
 use Rattle.decoded.proofs.Holding.{term_of, entries_length, table_closed, lacks_unheld}
 use Rattle.decoded.proofs.Steps.{sort_at_lem, operands_mapped, bound_at}
+use Rattle.std.proofs.Common.{Ok}
 
 -- ── What 1 to 5 leave ──
 
@@ -97,7 +97,7 @@ module _ (s : List ℕ) (p : Passed s) where
           step_scoped i x (omega arith) k l (omega arith) c
 
 -- a table that passes 1 to 9 is checked
-pub table_checked : (s : List ℕ) → least (table_rungs s) ≡ Pass → Checked signature1 (table_of s)
+pub table_checked : (s : List ℕ) → least (table_rungs s) ≡ Ok tt → Checked signature1 (table_of s)
 table_checked s e =
     let p = table_passed s e in
     let n = p.entered in

@@ -8,7 +8,6 @@ use Rattle.base.specs.Search.{walk, first, some}
 use Rattle.codes.specs.Marks.{mark, header}
 use Rattle.codes.specs.Rows.{rows, cell, fields, field_bytes, width, known, atom_kinds}
 use Rattle.answers.specs.Ladder.{answered, least}
-use Rattle.answers.specs.declared.Check.TheVariants.{Pass}
 use Rattle.entries.specs.Fields.{number, place_of, code, field, role, field_ok, fields_ok, entry_ok, same_entry}
 use Rattle.entries.specs.Faults.{node_ok, alone}
 use Rattle.opening.specs.Opening.{marked}
@@ -23,6 +22,7 @@ use Rattle.calculus.specs.Version1.{encryption, signature1}
 use Rattle.calculus.specs.ExampleTables.{E1}
 use Rattle.entries.specs.Tiling.{listed}
 use Rattle.decoded.specs.Table.{sort_of, entry_of, act_of, sort_at, term_at, step_at, table_of}
+use Rattle.std.proofs.Common.{Ok}
 
 -- E1: c(x), decrypt x with k as y, send y on c; header, symbols, terms, steps
 abbrev pub e1_bytes : List ℕ
@@ -51,11 +51,11 @@ every_code_table =
       steps = fresh 1 ∷ receive 0 2 ∷ split 2 3 4 ∷ decrypt encryption 4 1 5 ∷ compare 3 6 ∷ send 0 7 ∷ [];
     }
 
-pub e1_passes : least (table_rungs e1_bytes) ≡ Pass
+pub e1_passes : least (table_rungs e1_bytes) ≡ Ok tt
 unfolding byte word walk first some mark header rows cell fields field_bytes width known atom_kinds answered least number place_of code field role field_ok fields_ok entry_ok same_entry node_ok alone marked counts_ok length_ok symbol_ok sort_ok step_in_range step_ok part_at has_part use_at uses_term named is_binder binds binder again twice binds_new field_latest latest field_in_scope in_scope
 e1_passes = refl
 
-pub every_code_passes : least (table_rungs every_code_bytes) ≡ Pass
+pub every_code_passes : least (table_rungs every_code_bytes) ≡ Ok tt
 unfolding byte word walk first some mark header rows cell fields field_bytes width known atom_kinds answered least number place_of code field role field_ok fields_ok entry_ok same_entry node_ok alone marked counts_ok length_ok symbol_ok sort_ok step_in_range step_ok part_at has_part use_at uses_term named is_binder binds binder again twice binds_new field_latest latest field_in_scope in_scope
 every_code_passes = refl
 

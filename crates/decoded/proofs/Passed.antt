@@ -4,7 +4,6 @@ use mathlib.Core.Bool.{true}
 use mathlib.Core.List.{List, [], ◌∷◌, ◌++◌}
 use Prim.Native.Nat.{ℕ, ◌<◌}
 use Rattle.answers.specs.Ladder.{Rung, least}
-use Rattle.answers.specs.declared.Check.TheVariants.{Pass}
 use Rattle.answers.proofs.Passes.{first_passed, rest_passed}
 use Rattle.entries.specs.Faults.{node_ok, alone, twin_rung}
 use Rattle.opening.specs.Opening.{version}
@@ -14,6 +13,7 @@ use Rattle.table_layout.specs.Faults.{frame_rungs, symbol_rung, term_rung, step_
 use Rattle.table_naming.specs.Naming.{named, idle_rung, term_rungs}
 use Rattle.table_binding.specs.Binding.{binds_new, in_scope, bind_rung, scope_rung, bind_rungs}
 use Rattle.table.specs.Faults.{table_rungs}
+use Rattle.std.proofs.Common.{Ok}
 
 -- after 1 to 5: the frame, and each symbol, term and step
 pub record Entered (s : List ℕ) : Type 0 where
@@ -31,7 +31,7 @@ pub record Passed (s : List ℕ) : Type 0 where
   pub each_scoped : (k : ℕ) → k < steps s → in_scope s k ≡ true
 
 -- 1 to 5 pass, whatever follows them
-pub entries_passed : (s : List ℕ) (rs : List Rung) → least (frame_rungs s ++ (entry_rungs s ++ rs)) ≡ Pass → Entered s × (least rs ≡ Pass)
+pub entries_passed : (s : List ℕ) (rs : List Rung) → least (frame_rungs s ++ (entry_rungs s ++ rs)) ≡ Ok tt → Entered s × (least rs ≡ Ok tt)
 entries_passed s rs e =
     let (f, e₁) = frame_passed 0 s (counts_ok s) (length_ok s) (entry_rungs s ++ rs) e in
     let e₂ = rest_passed (symbol_rung s) (term_rung s ∷ step_rung s ∷ rs) e₁ in
@@ -46,11 +46,11 @@ entries_passed s rs e =
     )
 
 -- 1 to 5 pass by themselves
-pub entered : (s : List ℕ) → least (frame_rungs s ++ entry_rungs s) ≡ Pass → Entered s
+pub entered : (s : List ℕ) → least (frame_rungs s ++ entry_rungs s) ≡ Ok tt → Entered s
 entered s e = (entries_passed s [] e).0
 
 -- 1 to 9 pass
-pub table_passed : (s : List ℕ) → least (table_rungs s) ≡ Pass → Passed s
+pub table_passed : (s : List ℕ) → least (table_rungs s) ≡ Ok tt → Passed s
 table_passed s e =
     let (n, e₁) = entries_passed s (term_rungs s ++ bind_rungs s) e in
     let e₂ = rest_passed (twin_rung s 0 0 (terms_at s) (terms s)) (idle_rung s ∷ bind_rungs s) e₁ in

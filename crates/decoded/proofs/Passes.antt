@@ -11,7 +11,6 @@ use Rattle.base.specs.Bytes.{byte, word}
 use Rattle.base.proofs.BothLaws.{clash, both_true, both_parts}
 use Rattle.codes.specs.Marks.{mark, header}
 use Rattle.answers.specs.Ladder.{least}
-use Rattle.answers.specs.declared.Check.TheVariants.{Pass}
 use Rattle.answers.proofs.Ladder.{least_none}
 use Rattle.answers.proofs.Passes.{rung_right}
 use Rattle.entries.specs.Faults.{twin_rung}
@@ -28,6 +27,7 @@ use Rattle.decoded.proofs.Scoping.{in_scope_means}
 use Rattle.decoded.proofs.EntryTests.{symbol_ok_means, term_ok_means, step_ok_means, alone_means}
 use Rattle.decoded.proofs.Passed.{Entered, Passed, table_passed}
 use Rattle.decoded.proofs.Ranges.{parts_lower, terms_there}
+use Rattle.std.proofs.Common.{Ok}
 
 module _ (s : List ℕ) where
   -- 1 to 4, both ways
@@ -109,7 +109,7 @@ module _ (s : List ℕ) where
           absurd (r.each_in_scope k h ((in_scope_means s k (parts_lower s n) (terms_there s n k h)).0 e))
 
   -- a table whose things are all in order passes
-  passes : Passed s → least (table_rungs s) ≡ Pass
+  passes : Passed s → least (table_rungs s) ≡ Ok tt
   passes p =
       let n = p.entered in
       frame_right 0 s (counts_ok s) (length_ok s) _ n.frame
@@ -123,5 +123,5 @@ module _ (s : List ℕ) where
       ∙ least_none
 
   -- 1 to 9 pass exactly if the table has no fault
-  pub table_passes : (least (table_rungs s) ≡ Pass) ↔ TableRight s
+  pub table_passes : (least (table_rungs s) ≡ Ok tt) ↔ TableRight s
   table_passes = (λ e. to (table_passed s e), λ r. passes (from r))

@@ -10,7 +10,6 @@ use lib.ListN.{length}
 use Rattle.base.proofs.BothLaws.{clash}
 use Rattle.answers.specs.Ladder.{Rung, refusal, least}
 use Rattle.answers.specs.declared.Refusal.{Refusal}
-use Rattle.answers.specs.declared.Check.TheVariants.{Pass, Refuse}
 use Rattle.answers.proofs.Refused.{FirstBroken, refused_at, at_refused}
 use Rattle.entries.specs.Fields.{code, field, same_entry}
 use Rattle.entries.specs.Faults.{node_ok, alone, twin_rung}
@@ -35,6 +34,7 @@ use Rattle.decoded.proofs.Passed.{Entered, entered}
 use Rattle.decoded.proofs.Shapes.{three_same, term_same}
 use Rattle.decoded.proofs.Holding.{entry_at_lem, entries_length, table_closed}
 use Rattle.decoded.proofs.ValueLaws.{no_atom, value_at_lem, values_length, value_numbers_lem, values_closed}
+use Rattle.std.proofs.Common.{Ok, Err}
 
 -- ── Entries of either kind ──
 
@@ -95,8 +95,8 @@ terms_told s n i j h l = (
     as_bytes (a, b, c) = unfold term_at in rw (a, b, c)
 
 -- 6 with place i: 1 to 5 pass, and term i is the first that equals an earlier one
-pub six_means_term : (s : List ℕ) (i : ℕ) → (least (table_rungs s) ≡ Refuse (refusal 6 0 i))
-    ↔ ((least (frame_rungs s ++ entry_rungs s) ≡ Pass) × (i < terms s) × FirstWith (TreeRepeated signature1 0 (table_of s).entries) i)
+pub six_means_term : (s : List ℕ) (i : ℕ) → (least (table_rungs s) ≡ Err (refusal 6 0 i))
+    ↔ ((least (frame_rungs s ++ entry_rungs s) ≡ Ok tt) × (i < terms s) × FirstWith (TreeRepeated signature1 0 (table_of s).entries) i)
 six_means_term s i = (λ e. to (refused_at before twin after (refusal 6 0 i) tt refl e), λ (p, h, w). from p h w)
   where
     before : List Rung
@@ -108,13 +108,13 @@ six_means_term s i = (λ e. to (refused_at before twin after (refusal 6 0 i) tt 
     after : List Rung
     after = idle_rung s ∷ bind_rungs s
 
-    means : least before ≡ Pass → FirstBroken twin (refusal 6 0 i) ↔ ((i < terms s) × FirstWith (TreeRepeated signature1 0 (table_of s).entries) i)
+    means : least before ≡ Ok tt → FirstBroken twin (refusal 6 0 i) ↔ ((i < terms s) × FirstWith (TreeRepeated signature1 0 (table_of s).entries) i)
     means p = let n = entered s p in six_means 0 (table_of s).entries s 0 0 (terms_at s) (terms s) (terms_told s n) (table_closed s n) (entries_length s) i
 
-    to : (least before ≡ Pass) × FirstBroken twin (refusal 6 0 i) → (least before ≡ Pass) × (i < terms s) × FirstWith (TreeRepeated signature1 0 (table_of s).entries) i
+    to : (least before ≡ Ok tt) × FirstBroken twin (refusal 6 0 i) → (least before ≡ Ok tt) × (i < terms s) × FirstWith (TreeRepeated signature1 0 (table_of s).entries) i
     to (p, b) = let (h, w) = (means p).0 b in (p, h, w)
 
-    from : least before ≡ Pass → i < terms s → FirstWith (TreeRepeated signature1 0 (table_of s).entries) i → least (table_rungs s) ≡ Refuse (refusal 6 0 i)
+    from : least before ≡ Ok tt → i < terms s → FirstWith (TreeRepeated signature1 0 (table_of s).entries) i → least (table_rungs s) ≡ Err (refusal 6 0 i)
     from p h w = at_refused before twin after (refusal 6 0 i) p ((means p).1 (h, w))
 
 -- ── Values ──
@@ -134,20 +134,20 @@ values_told s right i j h l = (
         parts_same s 3 10 i j a b c
 
 -- 6 with place i: 1 to 5 pass, and value i is the first that equals an earlier one
-pub six_means_value : (s : List ℕ) (i : ℕ) → (least (trace_rungs s) ≡ Refuse (refusal 6 2 i))
-    ↔ ((least (trace_frame s ++ trace_entries s) ≡ Pass) × (i < values s) × FirstWith (TreeRepeated signature1 no_atom (values_of s)) i)
+pub six_means_value : (s : List ℕ) (i : ℕ) → (least (trace_rungs s) ≡ Err (refusal 6 2 i))
+    ↔ ((least (trace_frame s ++ trace_entries s) ≡ Ok tt) × (i < values s) × FirstWith (TreeRepeated signature1 no_atom (values_of s)) i)
 six_means_value s i = (λ e. to (refused_at before (equal_rung s) [] (refusal 6 2 i) tt refl e), λ (p, h, w). from p h w)
   where
     before : List Rung
     before = trace_frame s ++ trace_entries s
 
-    means : least before ≡ Pass → FirstBroken (equal_rung s) (refusal 6 2 i) ↔ ((i < values s) × FirstWith (TreeRepeated signature1 no_atom (values_of s)) i)
+    means : least before ≡ Ok tt → FirstBroken (equal_rung s) (refusal 6 2 i) ↔ ((i < values s) × FirstWith (TreeRepeated signature1 no_atom (values_of s)) i)
     means p =
         let right = (trace_entered s [] p).0.each_right in
         six_means no_atom (values_of s) s 3 2 10 (values s) (values_told s right) (values_closed s (version s) right) (values_length s) i
 
-    to : (least before ≡ Pass) × FirstBroken (equal_rung s) (refusal 6 2 i) → (least before ≡ Pass) × (i < values s) × FirstWith (TreeRepeated signature1 no_atom (values_of s)) i
+    to : (least before ≡ Ok tt) × FirstBroken (equal_rung s) (refusal 6 2 i) → (least before ≡ Ok tt) × (i < values s) × FirstWith (TreeRepeated signature1 no_atom (values_of s)) i
     to (p, b) = let (h, w) = (means p).0 b in (p, h, w)
 
-    from : least before ≡ Pass → i < values s → FirstWith (TreeRepeated signature1 no_atom (values_of s)) i → least (trace_rungs s) ≡ Refuse (refusal 6 2 i)
+    from : least before ≡ Ok tt → i < values s → FirstWith (TreeRepeated signature1 no_atom (values_of s)) i → least (trace_rungs s) ≡ Err (refusal 6 2 i)
     from p h w = at_refused before (equal_rung s) [] (refusal 6 2 i) p ((means p).1 (h, w))

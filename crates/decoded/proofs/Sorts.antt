@@ -9,7 +9,6 @@ use borrow.Author.Tests.{eqb-true}
 use Rattle.base.specs.Bytes.{byte}
 use Rattle.base.proofs.BothLaws.{both_left, both_right}
 use Rattle.answers.specs.Ladder.{least}
-use Rattle.answers.specs.declared.Check.TheVariants.{Pass}
 use Rattle.codes.specs.Rows.{cell, variable_role}
 use Rattle.entries.specs.Fields.{code}
 use Rattle.table_layout.specs.Layout.{symbols, steps, steps_at, sort, step_field, step_role, sort_ok, step_in_range, step_ok}
@@ -25,6 +24,7 @@ use Rattle.decoded.proofs.Passed.{Entered, table_passed}
 use Rattle.decoded.proofs.Ranges.{binder_there}
 use Rattle.decoded.proofs.Shapes.{five_bytes, five_same, step_role_lem, step_written}
 use Rattle.decoded.proofs.Steps.{sort_at_lem}
+use Rattle.std.proofs.Common.{Ok}
 
 -- field j of step k, x or y, binds the variable x
 record BindsVariable (s : List ℕ) (k x : ℕ) : Type 0 where
@@ -84,5 +84,5 @@ module _ (s : List ℕ) (n : Entered s) where
           inr (variable_sort x there (rw b.names at (variable_bound k b.at h b.from b.among b.role)))
 
 -- a table that passes 1 to 9 binds variables where it does not restrict
-pub table_binds_variables : (s : List ℕ) → least (table_rungs s) ≡ Pass → BindsVariables signature1 (table_of s).sorts (table_of s).steps
+pub table_binds_variables : (s : List ℕ) → least (table_rungs s) ≡ Ok tt → BindsVariables signature1 (table_of s).sorts (table_of s).steps
 table_binds_variables s e = binds_variables s (table_passed s e).entered

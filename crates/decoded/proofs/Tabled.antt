@@ -9,7 +9,6 @@ use Rattle.base.specs.Bytes.{byte}
 use Rattle.base.specs.Pick.{both}
 use Rattle.base.proofs.BothLaws.{both_left, both_right}
 use Rattle.answers.specs.Ladder.{least}
-use Rattle.answers.specs.declared.Check.TheVariants.{Pass}
 use Rattle.codes.specs.Rows.{cell}
 use Rattle.entries.specs.Fields.{code}
 use Rattle.table_layout.specs.Layout.{symbols, terms, steps, terms_at, steps_at, term_field, term_role, step_field, step_role, counts_ok}
@@ -23,6 +22,7 @@ use Rattle.decoded.proofs.Ranges.{term_code_lem, term_field_lem, step_code_lem, 
 use Rattle.decoded.proofs.Shapes.{term_role_lem, step_role_lem}
 use Rattle.decoded.proofs.Holding.{entry_at_lem}
 use Rattle.decoded.specs.Indexes.{entries_of, kind_of}
+use Rattle.std.proofs.Common.{Ok}
 
 pub term_as : (s : List ℕ) (i op : ℕ) → code s 0 (terms_at s) i ≡ op → term_at s i ≡ entry_of op (term_field s i 0) (term_field s i 1)
 unfolding term_at
@@ -41,7 +41,7 @@ pub record IsCompound (s : List ℕ) (i : ℕ) : Type 0 where
   pub code_small : code s 0 (terms_at s) i < 3
   pub not_zero : ¬ (code s 0 (terms_at s) i ≡ 0)
 
-module _ (s : List ℕ) (e : least (table_rungs s) ≡ Pass) where
+module _ (s : List ℕ) (e : least (table_rungs s) ≡ Ok tt) where
   pub counts_small : (symbols s ≤ 96) × (terms s ≤ 128) × (steps s ≤ 64)
   unfolding counts_ok
   counts_small =

@@ -3,7 +3,6 @@ use mathlib.Core.Path.{◌≡◌, sym, ◌∙◌}
 use mathlib.Core.List.{List}
 use Prim.Native.Nat.{ℕ, ◌<◌}
 use Rattle.answers.specs.Ladder.{least}
-use Rattle.answers.specs.declared.Check.TheVariants.{Pass}
 use Rattle.entries.proofs.Unlike.{entries_unlike}
 use Rattle.table_layout.specs.Layout.{terms, terms_at}
 use Rattle.table.specs.Faults.{table_rungs}
@@ -14,9 +13,10 @@ use Rattle.decoded.specs.Table.{table_of}
 use Rattle.decoded.proofs.Passed.{table_passed}
 use Rattle.decoded.proofs.Shapes.{term_same}
 use Rattle.decoded.proofs.Holding.{term_of, entry_at_lem, entries_length, table_closed}
+use Rattle.std.proofs.Common.{Ok}
 
 -- no entry of the table equals an earlier one
-pub terms_unrepeated : (s : List ℕ) → least (table_rungs s) ≡ Pass → Unrepeated signature1 0 (table_of s).entries
+pub terms_unrepeated : (s : List ℕ) → least (table_rungs s) ≡ Ok tt → Unrepeated signature1 0 (table_of s).entries
 terms_unrepeated s e i j h l q =
     let p = table_passed s e in
     let n = p.entered in
@@ -26,7 +26,7 @@ terms_unrepeated s e i j h l q =
     entries_unlike s 0 (terms_at s) (terms s) p.each_alone i j a b c f g
 
 -- equal terms have equal indexes
-pub equal_terms_equal_indexes : (s : List ℕ) → least (table_rungs s) ≡ Pass → (i j : ℕ) → i < terms s → j < terms s
+pub equal_terms_equal_indexes : (s : List ℕ) → least (table_rungs s) ≡ Ok tt → (i j : ℕ) → i < terms s → j < terms s
     → term_of s i ≡ term_of s j → i ≡ j
 equal_terms_equal_indexes s e i j h l q =
     let n = (table_passed s e).entered in

@@ -8,7 +8,6 @@ use borrow.Author.Tests.{eqb-true}
 use Rattle.base.specs.Bytes.{byte}
 use Rattle.codes.specs.Rows.{width}
 use Rattle.answers.specs.Ladder.{least}
-use Rattle.answers.specs.declared.Check.TheVariants.{Pass}
 use Rattle.entries.specs.Fields.{place_of, code}
 use Rattle.opening.proofs.Frames.{marked_means, version_bytes}
 use Rattle.table_layout.specs.Layout.{symbols, terms, steps, terms_at, steps_at, sort, length_ok}
@@ -20,6 +19,7 @@ use Rattle.entries.proofs.Tiling.{listed_length, stretch_whole, stretches, joine
 use Rattle.decoded.proofs.Passed.{Entered, table_passed}
 use Rattle.decoded.proofs.Ranges.{sort_small}
 use Rattle.decoded.proofs.Shapes.{three_bytes, five_bytes, term_written, step_written}
+use Rattle.std.proofs.Common.{Ok}
 
 -- a symbol's byte
 sort_written : (b : ℕ) → b < 2 → sort_bytes (sort_of b) ≡ b ∷ []
@@ -103,9 +103,9 @@ module _ (s : List ℕ) (n : Entered s) where
       (stretch_whole s)
 
 -- a table that passes 1 to 9, decoded and encoded, is the same file
-pub table_written : (s : List ℕ) → least (table_rungs s) ≡ Pass → table_bytes (table_of s) ≡ s
+pub table_written : (s : List ℕ) → least (table_rungs s) ≡ Ok tt → table_bytes (table_of s) ≡ s
 table_written s e = written_again s (table_passed s e).entered
 
 -- two files that stand for the same table are the same
-pub table_once : (s t : List ℕ) → least (table_rungs s) ≡ Pass → least (table_rungs t) ≡ Pass → table_of s ≡ table_of t → s ≡ t
+pub table_once : (s t : List ℕ) → least (table_rungs s) ≡ Ok tt → least (table_rungs t) ≡ Ok tt → table_of s ≡ table_of t → s ≡ t
 table_once s t p q e = sym (table_written s p) ∙ ap table_bytes e ∙ table_written t q

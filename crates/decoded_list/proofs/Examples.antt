@@ -9,7 +9,6 @@ use Rattle.codes.specs.Marks.{mark, header}
 use Rattle.codes.specs.Rows.{rows, cell, fields, field_bytes, width, known}
 use Rattle.codes.specs.Types.{type_parts, type_known}
 use Rattle.answers.specs.Ladder.{answered, least}
-use Rattle.answers.specs.declared.Check.TheVariants.{Pass}
 use Rattle.entries.specs.Fields.{number, place_of, code, field, role, field_ok, fields_ok, entry_ok}
 use Rattle.entries.specs.Tiling.{listed, joined}
 use Rattle.opening.specs.Opening.{marked}
@@ -25,6 +24,7 @@ use Rattle.list.specs.Layout.{type_at, counts_ok, length_ok, wants, type_ok_at, 
 use Rattle.list.specs.Faults.{list_rungs}
 use Rattle.decoded_list.specs.Bytes.{two_op, half_op, statement_bytes, type_with_length, header_bytes, list_bytes}
 use Rattle.decoded_list.specs.Statements.{statement_of, statement_at, statements_of}
+use Rattle.std.proofs.Common.{Ok}
 
 -- E1's list: header, types of c, k, x, y, then receive, decrypt, send
 abbrev e1_bytes : List ℕ
@@ -52,7 +52,7 @@ every_code_list = record {
 
 -- the bytes are the list's file, pass 1 to 5 with that many free symbols, and give the statements back
 abbrev Works : List ℕ → StatementList signature1 → ℕ → Type 0
-Works s l free = (list_bytes l ≡ s) × (least (list_rungs s free) ≡ Pass) × (statements_of s ≡ l.statements)
+Works s l free = (list_bytes l ≡ s) × (least (list_rungs s free) ≡ Ok tt) × (statements_of s ≡ l.statements)
 
 pub examples_work : Works e1_bytes e1_list 2 × Works every_code_bytes every_code_list 2
 unfolding byte word walk first mark header rows cell fields field_bytes width known type_parts type_known answered least number place_of code field role field_ok fields_ok entry_ok listed joined marked encoded code1 type_at counts_ok length_ok wants type_ok_at type_ok gives given statement_ok_at statement_ok two_op half_op statement_bytes type_with_length header_bytes list_bytes statement_of statement_at

@@ -8,7 +8,6 @@ use lib.ListN.{length, get_or}
 use Rattle.base.specs.Bytes.{byte}
 use Rattle.codes.specs.Rows.{cell, field_bytes}
 use Rattle.answers.specs.Ladder.{least}
-use Rattle.answers.specs.declared.Check.TheVariants.{Pass}
 use Rattle.entries.specs.Fields.{number, place_of, field}
 use Rattle.entries.specs.Words.{Bytes}
 use Rattle.entries.specs.Tiling.{listed}
@@ -35,6 +34,7 @@ use Rattle.decoded_list.proofs.Reading.{list_decoded}
 use Rattle.decoded_list.proofs.Passing.{file_passes}
 use Rattle.decoded_list.proofs.FileBytes.{file_bytes}
 use Rattle.decoded_list.proofs.Once.{decoded_symbols}
+use Rattle.std.proofs.Common.{Ok}
 
 -- ── Types ──
 
@@ -120,15 +120,15 @@ module _ (s : List ℕ) (free : ℕ) (l : Listed s free) (b : Bytes s) where
   }
 
 -- a list that passes 1 to 5 is the file of a list in form
-pub list_in_form : (s : List ℕ) (free : ℕ) → Bytes s → least (list_rungs s free) ≡ Pass → (d : Decoded s) → InForm (record { types = d.types; statements = statements_of s }) free
+pub list_in_form : (s : List ℕ) (free : ℕ) → Bytes s → least (list_rungs s free) ≡ Ok tt → (d : Decoded s) → InForm (record { types = d.types; statements = statements_of s }) free
 list_in_form s free b e d = in_form s free ((list_passes s free).0 e) b d
 
 -- a string of bytes passes 1 to 5 exactly if it is the file of a list in form
-pub list_exact : (s : List ℕ) (free : ℕ) → (Bytes s × (least (list_rungs s free) ≡ Pass)) ↔ ((l : StatementList signature1) × (s ≡ list_bytes l) × InForm l free)
+pub list_exact : (s : List ℕ) (free : ℕ) → (Bytes s × (least (list_rungs s free) ≡ Ok tt)) ↔ ((l : StatementList signature1) × (s ≡ list_bytes l) × InForm l free)
 list_exact s free = (λ w. to w.0 w.1, λ w. from w.0 w.1 w.2)
   where
-    to : Bytes s → least (list_rungs s free) ≡ Pass → (l : StatementList signature1) × (s ≡ list_bytes l) × InForm l free
+    to : Bytes s → least (list_rungs s free) ≡ Ok tt → (l : StatementList signature1) × (s ≡ list_bytes l) × InForm l free
     to b e = let d = list_decoded s free b e in (record { types = d.types; statements = statements_of s }, d.is_file, list_in_form s free b e d)
 
-    from : (l : StatementList signature1) → s ≡ list_bytes l → InForm l free → Bytes s × (least (list_rungs s free) ≡ Pass)
+    from : (l : StatementList signature1) → s ≡ list_bytes l → InForm l free → Bytes s × (least (list_rungs s free) ≡ Ok tt)
     from l e f = rw e (file_bytes l free f, file_passes l free f)

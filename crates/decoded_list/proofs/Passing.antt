@@ -12,7 +12,6 @@ use Rattle.base.specs.Bytes.{byte, word}
 use Rattle.codes.specs.Marks.{mark, header}
 use Rattle.codes.specs.Rows.{limits_of}
 use Rattle.answers.specs.Ladder.{least}
-use Rattle.answers.specs.declared.Check.TheVariants.{Pass}
 use Rattle.answers.proofs.Passes.{layers_passed}
 use Rattle.entries.specs.Fields.{entry_ok}
 use Rattle.entries.specs.Tiling.{listed, joined}
@@ -33,6 +32,7 @@ use Rattle.decoded_list.specs.Statements.{statement_at, statements_of}
 use Rattle.decoded_list.specs.Form.{registers_given, StatementsFit, fit_one, InForm}
 use Rattle.decoded_list.proofs.FileLayout.{StatementThere, statement_there, file_symbols, file_count, file_body, file_statements_there, file_length}
 use Rattle.decoded_list.proofs.Codes.{read_back, statement_in_order}
+use Rattle.std.proofs.Common.{Ok}
 
 -- ── The statements ──
 
@@ -96,7 +96,7 @@ module _ (l : StatementList signature1) where
     from_first = let z : statements_at (list_bytes l) + 0 * 4 ≡ statements_at (list_bytes l) = omega arith in rw z (file_statements_there l)
 
     -- the file of a list in form passes 1 to 5
-    pub file_passes : least (list_rungs (list_bytes l) free) ≡ Pass
+    pub file_passes : least (list_rungs (list_bytes l) free) ≡ Ok tt
     unfolding given
     file_passes = (list_passes (list_bytes l) free).1 record {
       framed = file_framed;

@@ -10,7 +10,6 @@ use lib.Seq.{length-take-le}
 use Rattle.base.specs.Bytes.{byte}
 use Rattle.codes.specs.Marks.{header}
 use Rattle.answers.specs.Ladder.{least}
-use Rattle.answers.specs.declared.Check.TheVariants.{Pass}
 use Rattle.entries.specs.Words.{Bytes}
 use Rattle.entries.specs.Tiling.{listed, joined, stretch, number_bytes}
 use Rattle.entries.proofs.Tiling.{listed_length, listed_add, stretch_part, word_bytes, joined_append}
@@ -29,6 +28,7 @@ use Rattle.decoded_list.specs.Bytes.{statement_bytes, type_with_length, header_b
 use Rattle.decoded_list.specs.Statements.{statement_at}
 use Rattle.decoded_list.specs.Decoded.{Decoded}
 use Rattle.decoded_list.proofs.Codes.{entry_in_order, entry_written}
+use Rattle.std.proofs.Common.{Ok}
 
 -- ── Things written one after the other ──
 
@@ -99,5 +99,5 @@ module _ (s : List ℕ) (free : ℕ) (l : Listed s free) where
       }
 
 -- a list of bytes that passes 1 to 5 is the file of a list
-pub list_decoded : (s : List ℕ) (free : ℕ) → Bytes s → least (list_rungs s free) ≡ Pass → Decoded s
+pub list_decoded : (s : List ℕ) (free : ℕ) → Bytes s → least (list_rungs s free) ≡ Ok tt → Decoded s
 list_decoded s free b e = listed_decoded s free ((list_passes s free).0 e) b

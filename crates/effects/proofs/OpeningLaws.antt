@@ -1,6 +1,6 @@
 -- Halves, decryption and builds: one law for each way out. Assumes nothing.
 use mathlib.Core.Path.{◌≡◌, refl, sym, ◌∙◌}
-use mathlib.Core.Bool.{Bool, true, false, decide}
+use mathlib.Core.Bool.{decide}
 use mathlib.Core.Option.{none, some}
 use mathlib.Core.List.{List, append-nil}
 use Prim.Native.Nat.{ℕ, zero, suc, ◌+◌, ◌*◌, ◌<◌}
@@ -20,12 +20,14 @@ use Rattle.value_table.specs.Kept.{Kept, Makes}
 use Rattle.value_table.specs.declared.Made.{Made}
 use Rattle.value_table.proofs.Reading.{tag_small, entry_atom, entry_pair, entry_seal}
 use Rattle.run_parts.specs.Registers.{register_number, Gives}
-use Rattle.run_parts.specs.Types.{Passes}
 use Rattle.run_parts.proofs.RegisterLaws.{given_symbol}
 use Rattle.run_parts.proofs.KeptLaws.{passes_kept}
-use Rattle.effects.specs.Effects.{acting, side_number, halving, building, Does}
+use Rattle.std.specs.Bool.{⊤}
+use Rattle.std.proofs.Common.{Result, Ok, Err}
+use Rattle.effects.specs.Effects.{acting, side_number, halving, building, Binds, binds_on, binds_end, ending_number, Does}
 use Rattle.effects.specs.declared.State.{State}
-use Rattle.effects.specs.declared.Step.TheVariants.{Next, Stop}
+use Rattle.effects.specs.declared.Ending.{Ending as CodeEnding}
+use Rattle.effects.specs.declared.Ending.TheVariants.{WrongKey, OpenedLacks, NoPair, NoCiphertext}
 use Rattle.effects.proofs.ActLaws.{entry_of, goes_on, ends}
 
 -- ── By the tag of a value that is kept ──
@@ -68,15 +70,15 @@ stays_shut {w = w} {n = n} k v key t e h q = rw (seal_there k v t e h, ne_eqb (p
 -- ── Halves ──
 
 module _ (w g : List ℕ) (s : State) (v t : ℕ) (e : t ≡ tag_at w s.count v) where
-  pub half_none : ¬ (t ≡ 1) → (d : Side) (l tr o : List ℕ) → Does 0 0 (halving d v) l tr w w o o g g s (Stop 8 s)
-  unfolding halving half_of number_of
+  pub half_none : ¬ (t ≡ 1) → (d : Side) (l tr o : List ℕ) → Does 0 0 (halving d v) l tr w w o o g g s s (Err NoPair)
+  unfolding halving half_of number_of ending_number
   half_none h d l tr o = record {
     does = λ As i z y es rs su ms k r.
         rw (no_pair_by k.kept v t e h) (ends refl k.kept (rw (append-nil ms) k.said) k.given k.left);
   }
 
   pub half_done : t ≡ 1 → (j x : ℕ) → x ≡ part_at w s.count v j → (u : x < 65536) (g' : List ℕ) (q : ℕ) → Gives g s.registers (2 * x + 1) g' q → (d : Side) (l tr o : List ℕ) → side_number d ≡ j
-      → Does 0 0 (halving d v) l tr w w o o g g' s (Next (record { used = s.used; logged = s.logged; count = s.count; registers = q }))
+      → Does 0 0 (halving d v) l tr w w o o g g' s (record { used = s.used; logged = s.logged; count = s.count; registers = q }) (Ok tt)
   unfolding halving half_of
   half_done h j x p u g' q f d l tr o i = record {
     does = λ As c z y es rs su ms k r.
@@ -91,44 +93,40 @@ module _ (w g : List ℕ) (s : State) (v t : ℕ) (e : t ≡ tag_at w s.count v)
 -- ── Decryption ──
 
 module _ (l w g : List ℕ) (s : State) (v key x t : ℕ) (e : t ≡ tag_at w s.count v) where
-  pub decrypt_none : ¬ (t ≡ 2) → (tr o : List ℕ) → Does 0 0 (acting (decrypt encryption v key x)) l tr w w o o g g s (Stop 9 s)
-  unfolding acting perform opening in_registers number_of
+  pub decrypt_none : ¬ (t ≡ 2) → (tr o : List ℕ) → Does 0 0 (acting (decrypt encryption v key x)) l tr w w o o g g s s (Err NoCiphertext)
+  unfolding acting perform opening in_registers number_of ending_number
   decrypt_none h tr o = record {
     does = λ As i z y es rs su ms k r.
         rw (no_seal_by k.kept v key t e h) (ends refl k.kept (rw (append-nil ms) k.said) k.given k.left);
   }
 
   module _ (h : t ≡ 2) (b : ℕ) (p : b ≡ part_at w s.count v 1) where
-    pub decrypt_locked : ¬ (b ≡ key) → (tr o : List ℕ) → Does 0 0 (acting (decrypt encryption v key x)) l tr w w o o g g s (Stop 3 s)
-    unfolding acting perform opening in_registers number_of
+    pub decrypt_locked : ¬ (b ≡ key) → (tr o : List ℕ) → Does 0 0 (acting (decrypt encryption v key x)) l tr w w o o g g s s (Err WrongKey)
+    unfolding acting perform opening in_registers number_of ending_number
     decrypt_locked n tr o = record {
       does = λ As i z y es rs su ms k r.
           rw (stays_shut k.kept v key t e h (λ q. n (p ∙ q))) (ends refl k.kept (rw (append-nil ms) k.said) k.given k.left);
     }
 
-    module _ (m : b ≡ key) (a : ℕ) (c : a ≡ part_at w s.count v 0) (f : Bool) (u : Passes l x w s.count a f) where
-      pub decrypt_passes : a < 65536 → f ≡ true → (g' : List ℕ) (q : ℕ) → Gives g s.registers (2 * a + 1) g' q → (tr o : List ℕ)
-          → Does 0 0 (acting (decrypt encryption v key x)) l tr w w o o g g' s (Next (record { used = s.used; logged = s.logged; count = s.count; registers = q }))
-      unfolding acting perform opening passes in_registers
-      decrypt_passes d i g' q j tr o = record {
-        does = λ As y z y' es rs su ms k r.
-            rw (opens k.kept v key t e h (sym p ∙ m), sym c, passes_kept As y k.kept u, i)
-            (goes_on k.kept (rw (append-nil ms) k.said) (given_symbol a d j k.given (omega (arith, k.given.count, r.few_registers))) k.left);
-      }
-
-      pub decrypt_lacks : f ≡ false → (tr o : List ℕ) → Does 0 0 (acting (decrypt encryption v key x)) l tr w w o o g g s (Stop 5 s)
-      unfolding acting perform opening passes in_registers number_of
-      decrypt_lacks i tr o = record {
-        does = λ As y z y' es rs su ms k r.
-            rw (opens k.kept v key t e h (sym p ∙ m), sym c, passes_kept As y k.kept u, i)
-            (ends refl k.kept (rw (append-nil ms) k.said) k.given k.left);
-      }
+    pub decrypt_bound : b ≡ key → (a : ℕ) → a ≡ part_at w s.count v 0 → {g' : List ℕ} {s' : State} {q : Result ⊤ CodeEnding} → Binds l w g g' s s' x a OpenedLacks q → (tr o : List ℕ)
+        → Does 0 0 (acting (decrypt encryption v key x)) l tr w w o o g g' s s' q
+    unfolding acting perform opening passes in_registers number_of ending_number
+    decrypt_bound m a c (binds_on u d j) tr o = record {
+      does = λ As y z y' es rs su ms k r.
+          rw (opens k.kept v key t e h (sym p ∙ m), sym c, passes_kept As y k.kept u)
+          (goes_on k.kept (rw (append-nil ms) k.said) (given_symbol a d j k.given (omega (arith, k.given.count, r.few_registers))) k.left);
+    }
+    decrypt_bound m a c (binds_end u) tr o = record {
+      does = λ As y z y' es rs su ms k r.
+          rw (opens k.kept v key t e h (sym p ∙ m), sym c, passes_kept As y k.kept u)
+          (ends refl k.kept (rw (append-nil ms) k.said) k.given k.left);
+    }
 
 -- ── Builds ──
 
 pub build_done : (w w' g g' : List ℕ) (s : State) (tag v u : ℕ) (m : Made) (q : ℕ) → Makes w s.count tag v u w' m → (d : m.index < 65536) → Gives g s.registers (2 * m.index) g' q
     → (k : Two Seal1) (l tr o : List ℕ) → two_code k ≡ tag
-    → Does 1 0 (building k v u) l tr w w' o o g g' s (Next (record { used = s.used; logged = s.logged; count = m.count; registers = q }))
+    → Does 1 0 (building k v u) l tr w w' o o g g' s (record { used = s.used; logged = s.logged; count = m.count; registers = q }) (Ok tt)
 unfolding building register_number
 build_done w w' g g' s tag v u m q p d f k l tr o c = record {
   does = λ As t z y es rs su ms i r.

@@ -1,5 +1,5 @@
 // What each kind of statement does to a run: over the list's types, the trace's supply, a value table and messages in lent buffers, and
-// registers in a lent array. A register's number is even where it means a compound term, odd where it means a symbol (`run_parts`).
+// registers. A register's number is even where it means a compound term, odd where it means a symbol (`run_parts`).
 // Nothing is asked of the caller: what has no room is not written.
 #![tactic(auto)]
 
@@ -8,10 +8,14 @@ ghost use Rattle.calculus.specs.Signature.{Two};
 ghost use Rattle.calculus.specs.Terms.{Side, send as sends, receive as receives, fresh as freshens, compare as compares, decrypt as decrypts};
 ghost use Rattle.calculus.specs.Version1.{Seal1, encryption};
 ghost use Rattle.decoded.specs.Table.{two_code};
-ghost use Rattle.effects.specs.Effects.{Does, acting, side_number, halving, building};
+ghost use Rattle.value_table.specs.Values.{tag_at as tag_of, part_at as part_of};
+ghost use Rattle.run_parts.specs.Registers.{value_in as held_in};
+ghost use Rattle.run_parts.specs.Types.{Passes};
+ghost use Rattle.freshness.specs.Fresh.{FreshBy};
+ghost use Rattle.effects.specs.Effects.{Same, Supplied, Binds, RunDoes, acting, side_number, halving, building};
 
 // How far a run has come: supplies used, messages logged, values in the table, registers given.
-#[derive(Drop)]
+#[derive(Clone, Copy)]
 pub struct State {
     pub used: u16,
     pub logged: u16,
@@ -19,180 +23,186 @@ pub struct State {
     pub registers: u16,
 }
 
-// After a statement the run goes on; or it stops with an ending.
+// How a run ends: document 01's endings from 0 on, in order, then two with which no accepted list ends.
+#[derive(Clone, Copy, PartialEq, Eq)]
+pub enum Ending {
+    Finished,
+    NoSupply,
+    NotEqual,
+    WrongKey,
+    ReceivedLacks,
+    OpenedLacks,
+    NotFresh,
+    FreshLacks,
+    NoPair,
+    NoCiphertext,
+}
+
+// A run: the list and the trace, the value table and the messages in lent buffers, the registers, and how far it has come.
 #[derive(Drop)]
-pub enum Step {
-    Next(State),
-    Stop(u8, State),
+pub struct Run<'a> {
+    pub list: &'a [u8],
+    pub trace: &'a [u8],
+    pub values: &'a mut [u8],
+    pub log: &'a mut [u8],
+    pub registers: [u32; 608],
+    pub state: State,
 }
 
-// Sends v on c.
-pub fn send(log: &mut [u8], s: State, c: u16, v: u16) -> Step
-    ensures { (l tr w g : List ℕ) → Does 0 1 (acting (sends c v)) l tr w w log.old log.new g g s result }
-{
-    let n = run_parts::say(log, s.logged, 0, c, v);
-    Step::Next(State {
-        used: s.used,
-        logged: n,
-        count: s.count,
-        registers: s.registers,
-    })
-}
+// A statement is a method. It ends the run by an `Err`.
+impl Run<'_> {
+    // The next supplied value, if supply is left.
+    fn next_supplied(&self) -> Result<u16, Ending>
+        ensures { Supplied self.now.trace.now self.now.state.used result }
+    {
+        if trace::supply_count(self.trace) <= self.state.used {
+            return Err(Ending::NoSupply);
+        }
+        Ok(run_parts::supplied(self.trace, self.state.used))
+    }
 
-// Receives the next supplied value on c into symbol x: supply left, taken, logged, then its type.
-pub fn receive(
-    list: &[u8],
-    trace: &[u8],
-    values: &[u8],
-    log: &mut [u8],
-    registers: &mut [u32; 608],
-    s: State,
-    c: u16,
-    x: u8,
-) -> Step
-    ensures { Does 0 1 (acting (receives c x)) list.now trace.now values.now values.now log.old log.new registers.old registers.new s result }
-{
-    let used = s.used;
-    if trace::supply_count(trace) <= used {
-        return Step::Stop(1, s);
+    // The value in register p.
+    pub fn value_in(&self, p: u8) -> u16
+        ensures { result ≡ held_in self.now.registers self.now.state.registers p }
+    {
+        run_parts::value_in(&self.registers, self.state.registers, p)
     }
-    let v = run_parts::supplied(trace, used);
-    let n = run_parts::say(log, s.logged, 1, c, v);
-    if run_parts::passes(list, x, values, s.count, v) {
-        let given = run_parts::give(registers, s.registers, 2 * v as u32 + 1);
-        return Step::Next(State {
-            used: used + 1,
-            logged: n,
-            count: s.count,
-            registers: given,
-        });
-    }
-    Step::Stop(
-        4,
-        State {
-            used: used + 1,
-            logged: n,
-            count: s.count,
-            registers: s.registers,
-        },
-    )
-}
 
-// Takes the next supplied value as the fresh name x: supply left, taken, an atom and fresh, then its type.
-pub fn fresh(
-    list: &[u8],
-    trace: &[u8],
-    values: &[u8],
-    registers: &mut [u32; 608],
-    s: State,
-    x: u8,
-) -> Step
-    ensures { (o : List ℕ) → Does 0 0 (acting (freshens x)) list.now trace.now values.now values.now o o registers.old registers.new s result }
-{
-    let used = s.used;
-    if trace::supply_count(trace) <= used {
-        return Step::Stop(1, s);
+    // The tag of value v.
+    fn tag_at(&self, v: u16) -> u8
+        ensures { result ≡ tag_of self.now.values.now self.now.state.count v }
+    {
+        value_table::tag_at(self.values, self.state.count, v)
     }
-    let v = run_parts::supplied(trace, used);
-    let after = State {
-        used: used + 1,
-        logged: s.logged,
-        count: s.count,
-        registers: s.registers,
-    };
-    if value_table::tag_at(values, s.count, v) != 0 {
-        return Step::Stop(6, after);
-    }
-    if !freshness::is_fresh(values, s.count, registers, s.registers, v) {
-        return Step::Stop(6, after);
-    }
-    if run_parts::passes(list, x, values, s.count, v) {
-        let given = run_parts::give(registers, s.registers, 2 * v as u32 + 1);
-        return Step::Next(State {
-            used: used + 1,
-            logged: s.logged,
-            count: s.count,
-            registers: given,
-        });
-    }
-    Step::Stop(7, after)
-}
 
-// Compares v with w.
-pub fn compare(s: State, v: u16, w: u16) -> Step
-    ensures { (l tr z o g : List ℕ) → Does 0 0 (acting (compares v w)) l tr z z o o g g s result }
-{
-    if v == w {
-        return Step::Next(s);
+    // Part j of value v.
+    fn part_at(&self, v: u16, j: u8) -> u16
+        ensures { result ≡ part_of self.now.values.now self.now.state.count v j }
+    {
+        value_table::part_at(self.values, self.state.count, v, j)
     }
-    Step::Stop(2, s)
-}
 
-// The left (0) or right (1) part of v. No accepted list ends with 8, not a pair.
-pub fn half(values: &[u8], registers: &mut [u32; 608], s: State, j: u8, v: u16) -> Step
-    ensures { (d : Side) (l tr o : List ℕ) → side_number d ≡ j → Does 0 0 (halving d v) l tr values.now values.now o o registers.old registers.new s result }
-{
-    if value_table::tag_at(values, s.count, v) != 1 {
-        return Step::Stop(8, s);
+    // Value v visibly has the type of symbol x.
+    fn passes(&self, x: u8, v: u16) -> bool
+        ensures { Passes self.now.list.now x self.now.values.now self.now.state.count v result }
+    {
+        run_parts::passes(self.list, x, self.values, self.state.count, v)
     }
-    let w = value_table::part_at(values, s.count, v, j);
-    let given = run_parts::give(registers, s.registers, 2 * w as u32 + 1);
-    Step::Next(State {
-        used: s.used,
-        logged: s.logged,
-        count: s.count,
-        registers: given,
-    })
-}
 
-// Decrypts v with key w into symbol x: a ciphertext, its key, then the type of its inside. No accepted list ends with 9, not a ciphertext.
-pub fn decrypt(
-    list: &[u8],
-    values: &[u8],
-    registers: &mut [u32; 608],
-    s: State,
-    v: u16,
-    w: u16,
-    x: u8,
-) -> Step
-    ensures { (tr o : List ℕ) → Does 0 0 (acting (decrypts encryption v w x)) list.now tr values.now values.now o o registers.old registers.new s result }
-{
-    if value_table::tag_at(values, s.count, v) != 2 {
-        return Step::Stop(9, s);
+    // Value v differs from every value that a symbol holds.
+    fn is_fresh(&self, v: u16) -> bool
+        ensures { FreshBy self.now.values.now self.now.state.count self.now.registers self.now.state.registers v result }
+    {
+        freshness::is_fresh(
+            self.values,
+            self.state.count,
+            &self.registers,
+            self.state.registers,
+            v,
+        )
     }
-    if value_table::part_at(values, s.count, v, 1) != w {
-        return Step::Stop(3, s);
-    }
-    let inside = value_table::part_at(values, s.count, v, 0);
-    if run_parts::passes(list, x, values, s.count, inside) {
-        let given = run_parts::give(registers, s.registers, 2 * inside as u32 + 1);
-        return Step::Next(State {
-            used: s.used,
-            logged: s.logged,
-            count: s.count,
-            registers: given,
-        });
-    }
-    Step::Stop(5, s)
-}
 
-// Makes a value of v and w: tag 1 a pair, 2 v encrypted under w.
-pub fn build(
-    values: &mut [u8],
-    registers: &mut [u32; 608],
-    s: State,
-    tag: u8,
-    v: u16,
-    w: u16,
-) -> Step
-    ensures { (k : Two Seal1) (l tr o : List ℕ) → two_code k ≡ tag → Does 1 0 (building k v w) l tr values.old values.new o o registers.old registers.new s result }
-{
-    let m = value_table::make(values, s.count, tag, v, w);
-    let given = run_parts::give(registers, s.registers, 2 * m.index as u32);
-    Step::Next(State {
-        used: s.used,
-        logged: s.logged,
-        count: m.count,
-        registers: given,
-    })
+    // Symbol x gets v, if v has its type; else the run ends.
+    fn bind(&mut self, x: u8, v: u16, lacks: Ending) -> Result<(), Ending>
+        ensures same { Same self.old self.new }
+        ensures kept { (self.new.values.now ≡ self.old.values.now) × (self.new.log.now ≡ self.old.log.now) }
+        ensures binds { Binds self.old.list.now self.old.values.now self.old.registers self.new.registers self.old.state self.new.state x v lacks result }
+    {
+        if !self.passes(x, v) {
+            return Err(lacks);
+        }
+        let number = 2 * v as u32 + 1;
+        self.state.registers = run_parts::give(&mut self.registers, self.state.registers, number);
+        Ok(())
+    }
+
+    // Sends v on c.
+    pub fn send(&mut self, c: u16, v: u16) -> Result<(), Ending>
+        ensures same { Same self.old self.new }
+        ensures kept { (self.new.values.now ≡ self.old.values.now) × (self.new.registers ≡ self.old.registers) }
+        ensures does { RunDoes 0 1 (acting (sends c v)) self.old self.new result }
+    {
+        self.state.logged = run_parts::say(self.log, self.state.logged, 0, c, v);
+        Ok(())
+    }
+
+    // Receives the next supplied value on c into symbol x: supply left, taken, logged, then its type.
+    pub fn receive(&mut self, c: u16, x: u8) -> Result<(), Ending>
+        ensures same { Same self.old self.new }
+        ensures kept { self.new.values.now ≡ self.old.values.now }
+        ensures does { RunDoes 0 1 (acting (receives c x)) self.old self.new result }
+    {
+        let v = self.next_supplied()?;
+        self.state.used += 1;
+        self.state.logged = run_parts::say(self.log, self.state.logged, 1, c, v);
+        self.bind(x, v, Ending::ReceivedLacks)
+    }
+
+    // Takes the next supplied value as the fresh name x: supply left, taken, an atom and fresh, then its type.
+    pub fn fresh(&mut self, x: u8) -> Result<(), Ending>
+        ensures same { Same self.old self.new }
+        ensures kept { (self.new.values.now ≡ self.old.values.now) × (self.new.log.now ≡ self.old.log.now) }
+        ensures does { RunDoes 0 0 (acting (freshens x)) self.old self.new result }
+    {
+        let v = self.next_supplied()?;
+        self.state.used += 1;
+        if self.tag_at(v) != 0 || !self.is_fresh(v) {
+            return Err(Ending::NotFresh);
+        }
+        self.bind(x, v, Ending::FreshLacks)
+    }
+
+    // Compares v with w.
+    pub fn compare(&self, v: u16, w: u16) -> Result<(), Ending>
+        ensures { RunDoes 0 0 (acting (compares v w)) self.now self.now result }
+    {
+        if v != w {
+            return Err(Ending::NotEqual);
+        }
+        Ok(())
+    }
+
+    // The left (0) or right (1) part of v.
+    pub fn half(&mut self, j: u8, v: u16) -> Result<(), Ending>
+        ensures same { Same self.old self.new }
+        ensures kept { (self.new.values.now ≡ self.old.values.now) × (self.new.log.now ≡ self.old.log.now) }
+        ensures does { (d : Side) → side_number d ≡ j → RunDoes 0 0 (halving d v) self.old self.new result }
+    {
+        if self.tag_at(v) != 1 {
+            return Err(Ending::NoPair);
+        }
+        let w = self.part_at(v, j);
+        let number = 2 * w as u32 + 1;
+        self.state.registers = run_parts::give(&mut self.registers, self.state.registers, number);
+        Ok(())
+    }
+
+    // Decrypts v with key w into symbol x: a ciphertext, its key, then the type of its inside.
+    pub fn decrypt(&mut self, v: u16, w: u16, x: u8) -> Result<(), Ending>
+        ensures same { Same self.old self.new }
+        ensures kept { (self.new.values.now ≡ self.old.values.now) × (self.new.log.now ≡ self.old.log.now) }
+        ensures does { RunDoes 0 0 (acting (decrypts encryption v w x)) self.old self.new result }
+    {
+        if self.tag_at(v) != 2 {
+            return Err(Ending::NoCiphertext);
+        }
+        if self.part_at(v, 1) != w {
+            return Err(Ending::WrongKey);
+        }
+        let inside = self.part_at(v, 0);
+        self.bind(x, inside, Ending::OpenedLacks)
+    }
+
+    // Makes a value of v and w: tag 1 a pair, 2 v encrypted under w.
+    pub fn build(&mut self, tag: u8, v: u16, w: u16) -> Result<(), Ending>
+        ensures same { Same self.old self.new }
+        ensures kept { self.new.log.now ≡ self.old.log.now }
+        ensures does { (k : Two Seal1) → two_code k ≡ tag → RunDoes 1 0 (building k v w) self.old self.new result }
+    {
+        let m = value_table::make(self.values, self.state.count, tag, v, w);
+        self.state.count = m.count;
+        let number = 2 * m.index as u32;
+        self.state.registers = run_parts::give(&mut self.registers, self.state.registers, number);
+        Ok(())
+    }
 }

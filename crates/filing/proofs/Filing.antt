@@ -174,10 +174,6 @@ all_free zero q = refl
 all_free (suc n) zero = refl
 all_free (suc n) (suc q) = all_free n q
 
--- no entry is filed in free slots
-pub filed_none : (s : List ℕ) (kind base : ℕ) (slots : List ℕ) → AllFree slots → Filed s kind base slots 0
-filed_none s kind base slots f = record { no_others = λ q. omega (arith, f q); found_again = λ i h. absurd (omega arith) }
-
 -- a way to a free slot: the slot is there
 pub filed_room : (s : List ℕ) (kind base : ℕ) (slots : List ℕ) (own p : ℕ) → way_of s kind base slots own ≡ Free p → p < length slots
 unfolding way_of

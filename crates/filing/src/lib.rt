@@ -3,15 +3,18 @@
 #![tactic(auto)]
 
 ghost use Rattle.std.specs.Prelude.{◌≡◌, [], ◌∷◌};
+ghost use Rattle.answers.specs.Files.{file_number};
 ghost use Rattle.answers.specs.Ladder.{least};
+ghost use Rattle.codes.specs.Kinds.{kind_number};
 ghost use Rattle.entries.specs.Faults.{twin_rung};
 ghost use Rattle.filing.specs.Filing.{key_of, way_of, AllFree};
 
-use answers::Check;
+use answers::{Check, File};
+use codes::Kind;
 
 // An entry of two fields as one number of 40 bits: its code, then its fields.
-fn key_at(s: &[u8], kind: u8, base: u32, i: u16) -> u64
-    ensures { result ≡ key_of s.now kind base i }
+fn key_at(s: &[u8], kind: Kind, base: u32, i: u16) -> u64
+    ensures { result ≡ key_of s.now (kind_number kind) base i }
 {
     let op = entries::code_at(s, kind, base, i);
     let left = entries::field_at(s, kind, base, i, 0);
@@ -32,13 +35,12 @@ pub enum Way {
 
 // The way of a key from its root. A slot holds 0, or an entry's index and 1; below an entry the key's next bit chooses the slot.
 // A key has 40 bits, so that 41 entries are enough.
-fn way_of(s: &[u8], kind: u8, base: u32, slots: &[u16], own: u64) -> Way
-    ensures { result ≡ way_of s.now kind base slots.now own }
+fn way_of(s: &[u8], kind: Kind, base: u32, slots: &[u16], own: u64) -> Way
+    ensures { result ≡ way_of s.now (kind_number kind) base slots.now own }
 {
     let mut key = own;
     let mut slot = 2048 + (own % 1021) as usize;
-    let mut left: u8 = 41;
-    while 0 < left {
+    for _ in 0..41u8 {
         if slots.len() <= slot {
             return Way::Lost;
         }
@@ -51,34 +53,30 @@ fn way_of(s: &[u8], kind: u8, base: u32, slots: &[u16], own: u64) -> Way
             return Way::Twin;
         }
         slot = 2 * at as usize + (key % 2) as usize;
-        key = key / 2;
-        left -= 1;
+        key /= 2;
     }
     Way::Lost
 }
 
 // Number 6 of entries of two fields, over free slots: each entry is filed at the end of its way.
 // Where a way is lost, all entries are compared.
-fn check_filed(s: &[u8], kind: u8, file: u8, base: u32, slots: &mut [u16], count: u16) -> Check
+fn check_filed(s: &[u8], kind: Kind, file: File, base: u32, slots: &mut [u16], count: u16) -> Check
     requires { AllFree slots.old }
-    ensures { result ≡ least (twin_rung s.now kind file base count ∷ []) }
+    ensures { result ≡ least (twin_rung s.now (kind_number kind) (file_number file) base count ∷ []) }
 {
-    let mut i = 0;
-    while i < count {
-        let way = way_of(s, kind, base, slots, key_at(s, kind, base, i));
-        match way {
+    for i in 0..count {
+        match way_of(s, kind, base, slots, key_at(s, kind, base, i)) {
             Way::Free(slot) => slots[slot] = i + 1,
             Way::Twin => return answers::refuse(6, file, i as usize),
             Way::Lost => return entries::check_twins(s, kind, file, base, count),
         }
-        i += 1;
     }
-    Check::Pass
+    Ok(())
 }
 
 // Number 6 of entries of two fields; up to 1,024 of them in time that grows with their count.
-pub fn check_unlike(s: &[u8], kind: u8, file: u8, base: u32, count: u16) -> Check
-    ensures { result ≡ least (twin_rung s.now kind file base count ∷ []) }
+pub fn check_unlike(s: &[u8], kind: Kind, file: File, base: u32, count: u16) -> Check
+    ensures { result ≡ least (twin_rung s.now (kind_number kind) (file_number file) base count ∷ []) }
 {
     let mut slots = [0u16; SLOTS];
     check_filed(s, kind, file, base, &mut slots, count)

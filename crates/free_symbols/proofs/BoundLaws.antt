@@ -6,7 +6,6 @@ use Prim.Native.Nat.{ℕ}
 use Rattle.base.specs.Search.{some}
 use Rattle.base.proofs.SomeLaws.{some_at, at_some}
 use Rattle.answers.specs.Ladder.{least}
-use Rattle.answers.specs.declared.Check.TheVariants.{Pass}
 use Rattle.marks.specs.Put.{Put, blank}
 use Rattle.marks.proofs.PutLaws.{put_as}
 use Rattle.table_layout.specs.Layout.{steps}
@@ -21,8 +20,9 @@ use Rattle.decoded.proofs.Passed.{table_passed}
 use Rattle.decoded.proofs.Binding.{binds_means}
 use Rattle.decoded.proofs.Steps.{bound_means}
 use Rattle.free_symbols.specs.Free.{is_bound, bound_in}
+use Rattle.std.proofs.Common.{Ok}
 
-module _ (s : List ℕ) (e : least (table_rungs s) ≡ Pass) where
+module _ (s : List ℕ) (e : least (table_rungs s) ≡ Ok tt) where
   -- a symbol is marked exactly if it is one of those that the steps bind
   pub bound_right : (x : ℕ) → is_bound s x ≡ is_in x (bound_in s)
   unfolding is_bound bound_in

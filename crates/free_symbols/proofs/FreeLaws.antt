@@ -1,15 +1,16 @@
 -- The free symbols one by one, and an array that lists them. Assumes nothing.
 use mathlib.Core.Path.{◌≡◌, refl, sym, ap, ◌∙◌}
 use mathlib.Core.Bool.{Bool, true, false, cond}
-use mathlib.Core.List.{List, [], ◌∷◌, ◌++◌}
+use mathlib.Core.List.{List, [], ◌∷◌, ◌++◌, append-nil}
 use Prim.Native.Nat.{ℕ, zero, suc, ◌+◌, ◌<◌}
 use native.Mathlib.Omega.{arith}
 use native.Mathlib.Numerals.{add-one}
 use lib.Dec.{eqb}
-use lib.ListN.{length, get_or, length-append, get_or-append}
+use lib.ListN.{length, get_or, set, length-append, get_or-append}
 use borrow.Author.Tests.{eqb-true, eqb-false}
 use Rattle.base.specs.Pick.{pick, both}
-use Rattle.marks.specs.Put.{Put}
+use Rattle.marks.specs.Put.{Put, blank}
+use Rattle.marks.proofs.PutLaws.{put_one, no_mark, a_mark}
 use Rattle.entries.specs.Tiling.{listed}
 use Rattle.entries.proofs.Tiling.{listed_length}
 use Rattle.table_layout.specs.Layout.{symbols}
@@ -65,7 +66,7 @@ pub lists_none : (z : List ℕ) → length z ≡ 256 → Lists [] z 0
 lists_none z e = record { size = e; count = refl; at = λ i h. absurd (omega arith) }
 
 -- one number more
-pub lists_more : (ys z o : List ℕ) (x n : ℕ) → n < 256 → Lists ys z n → Put z o (λ i. both true (eqb n i)) x → Lists (ys ++ (x ∷ [])) o (n + 1)
+lists_more : (ys z o : List ℕ) (x n : ℕ) → n < 256 → Lists ys z n → Put z o (λ i. both true (eqb n i)) x → Lists (ys ++ (x ∷ [])) o (n + 1)
 lists_more ys z o x n l h p = record { size = p.size ∙ h.size; count = rw (length-append ys (x ∷ [])) (omega (arith, h.count)); at = λ i m. go i m (eqb n i) refl (p.at i (rw h.size (omega arith))) }
   where
     go : (i : ℕ) → i < n + 1 → (b : Bool) → eqb n i ≡ b → get_or o i 0 ≡ pick b x (get_or z i 0) → get_or o i 0 ≡ get_or (ys ++ (x ∷ [])) i 0
@@ -74,3 +75,11 @@ lists_more ys z o x n l h p = record { size = p.size ∙ h.size; count = rw (len
         let u : ¬ (n ≡ i) = eqb-false n i q in
         let k : i < n = omega (arith, u) in
         e ∙ h.at i k ∙ sym (get_or-append ys (x ∷ []) 0 i (omega (arith, h.count)))
+
+-- symbol x follows what is listed if it is not marked as bound, and else not
+module _ (l ys : List ℕ) (n x : ℕ) (s : x < 256) {marks z : List ℕ} (p : Put blank marks (λ y. is_in y l) 1) where
+  pub lists_free : get_or marks x 0 ≡ 0 → Lists ys z n → n < 256 → Lists (ys ++ if_free l x) (set z n x) (n + 1)
+  lists_free e h m = rw (no_mark 1 x p s (λ q. omega arith) e) (lists_more ys z _ x n m h (put_one z true n x refl))
+
+  pub lists_bound : ¬ (get_or marks x 0 ≡ 0) → Lists ys z n → Lists (ys ++ if_free l x) z n
+  lists_bound e h = rw (a_mark 1 x p s e, append-nil ys) h

@@ -1,9 +1,7 @@
 -- The symbols that some step of a file's table binds, and the others in order, by index. Assumes nothing: these are definitions.
-use Rattle.std.specs.Prelude.{◌≡◌, Bool, cond, List, [], ◌∷◌, ◌++◌, ℕ, ◌<◌, length, get_or}
+use Rattle.std.specs.Prelude.{◌≡◌, Bool, cond, List, [], ◌∷◌, ℕ, ◌<◌, length, get_or, Ok}
 use Rattle.base.specs.Search.{some}
 use Rattle.answers.specs.Ladder.{least}
-use Rattle.answers.specs.declared.Check.TheVariants.{Pass}
-use Rattle.marks.specs.Put.{Put, blank}
 use Rattle.entries.specs.Tiling.{listed}
 use Rattle.table_layout.specs.Layout.{steps}
 use Rattle.table_binding.specs.Binding.{binds}
@@ -35,10 +33,6 @@ pub record Lists (l array : List ℕ) (n : ℕ) : Type 0 where
   pub count : n ≡ length l
   pub at : (i : ℕ) → i < n → get_or array i 0 ≡ get_or l i 0
 
--- whatever symbols are marked as bound and whatever is listed, x follows it if it is not marked
-abbrev pub ListsNext : List ℕ → ℕ → List ℕ → List ℕ → ℕ → ℕ → Type 0
-ListsNext marks x array array' n n' = (l ys : List ℕ) → Put blank marks (λ y. is_in y l) 1 → Lists ys array n → Lists (ys ++ if_free l x) array' n'
-
 -- where 1 to 9 pass, an array that has a place for every byte now begins with the n free symbols
 abbrev pub FreeListed : List ℕ → List ℕ → List ℕ → ℕ → Type 0
-FreeListed s array array' n = least (table_rungs s) ≡ Pass → length array ≡ 256 → Lists (free_of s) array' n
+FreeListed s array array' n = least (table_rungs s) ≡ Ok tt → length array ≡ 256 → Lists (free_of s) array' n

@@ -2,16 +2,16 @@
 // is said where 1 to 9 pass.
 #![tactic(auto)]
 
-ghost use Rattle.std.specs.Prelude.{◌≡◌, ◌+◌, ◌≤◌, ◌<◌};
+ghost use Rattle.std.specs.Prelude.{◌≡◌, Ok};
 ghost use Rattle.answers.specs.Ladder.{least};
-ghost use Rattle.answers.specs.declared.Check.TheVariants.{Pass};
 ghost use Rattle.marks.specs.Put.{Put};
 ghost use Rattle.table.specs.Faults.{table_rungs};
 ghost use Rattle.table_binding.specs.Binding.{binds_at, binds};
 ghost use Rattle.decoded.specs.Table.{free_count};
-ghost use Rattle.free_symbols.specs.Free.{is_bound, ListsNext, FreeListed};
+ghost use Rattle.free_symbols.specs.Free.{is_bound, FreeListed};
 
 // Marks the symbol that field j of step k binds, if it binds one.
+#[tactic(auto, using(marks::proofs::PutLaws::put_as))]
 fn mark_field(s: &[u8], k: u8, j: u8, bound: &mut [u8; 256])
     ensures { Put bound.old bound.new (binds_at s.now k j) 1 }
 {
@@ -24,6 +24,7 @@ fn mark_field(s: &[u8], k: u8, j: u8, bound: &mut [u8; 256])
 }
 
 // Marks the symbols that step k binds.
+#[tactic(auto, using(marks::proofs::PutLaws::put_both), unfolding(table_binding::specs::Binding::binds))]
 fn mark_step(s: &[u8], k: u8, bound: &mut [u8; 256])
     ensures { Put bound.old bound.new (binds s.now k) 1 }
 {
@@ -32,50 +33,35 @@ fn mark_step(s: &[u8], k: u8, bound: &mut [u8; 256])
 }
 
 // Marks all symbols that a step binds.
-pub fn mark_bound(s: &[u8], bound: &mut [u8; 256])
+fn mark_bound(s: &[u8], bound: &mut [u8; 256])
     ensures { Put bound.old bound.new (is_bound s.now) 1 }
 {
-    let n = table_layout::step_count(s);
-    let mut k = 0;
-    while k < n {
+    for k in 0..table_layout::step_count(s) {
         mark_step(s, k, bound);
-        k += 1;
     }
 }
 
-// Lists symbol x after so many others, unless it is marked as bound. Answers how many are listed then.
-fn list_if_free(bound: &[u8; 256], x: u8, list: &mut [u8; 256], count: u8) -> u8
-    requires { count < 255 }
-    ensures few { result ≤ count + 1 }
-    ensures listed { ListsNext bound.now x list.old list.new count result }
-{
-    if marks::get(bound, x) == 0 {
-        marks::put(list, true, count, x);
-        return count + 1;
-    }
-    count
-}
-
-// Lists the free symbols, by index. Answers how many there are.
+// Lists the free symbols, by index. Answers how many there are. The lent array is fixed memory with a place for every byte, so that a
+// caller may index it by any byte; an `ArrayVec` would want a bound there.
 pub fn list_free(s: &[u8], list: &mut [u8; 256]) -> u8
     ensures { FreeListed s.now list.old list.new result }
 {
     let mut bound = [0u8; 256];
     mark_bound(s, &mut bound);
-    let n = table_layout::symbol_count(s);
     let mut count = 0;
-    let mut x = 0;
-    while x < n {
-        count = list_if_free(&bound, x, list, count);
-        x += 1;
+    for x in 0..table_layout::symbol_count(s) {
+        if marks::get(&bound, x) == 0 {
+            list[base::wide(count)] = x;
+            count += 1;
+        }
     }
     count
 }
 
 // The number of free symbols.
 pub fn free_count(s: &[u8]) -> u16
-    ensures { least (table_rungs s.now) ≡ Pass → result ≡ free_count s.now }
+    ensures { least (table_rungs s.now) ≡ Ok tt → result ≡ free_count s.now }
 {
     let mut list = [0u8; 256];
-    list_free(s, &mut list) as u16
+    u16::from(list_free(s, &mut list))
 }

@@ -7,13 +7,12 @@ use Prim.Native.Nat.{ℕ, zero, suc, ◌+◌, ◌*◌, ◌/◌, ◌%◌, ◌<◌
 use native.Mathlib.Decide.{dec_lt}
 use native.Mathlib.Numerals.{add-one}
 use native.Mathlib.Omega.{arith}
-use lib.Dec.{ltb, eqb}
+use lib.Dec.{ltb}
 use lib.ListN.{length, drop, get_or, replicate, length-append, length-replicate, get_or-replicate}
 use lib.Seq.{drop-cons, drop-length}
 use borrow.Author.Tests.{ltb-false}
 use Rattle.base.specs.Pick.{both, either}
 use Rattle.base.specs.Search.{some}
-use Rattle.marks.specs.Put.{Put}
 use Rattle.calculus.specs.Version1.{signature1}
 use Rattle.running.specs.Values.{occurs_at, is_fresh, index}
 use Rattle.running.specs.Lists.{Register, term_register, held}
@@ -25,7 +24,7 @@ use Rattle.buffers.specs.Over.{over}
 use Rattle.entries.specs.Tiling.{joined}
 use Rattle.run_parts.specs.Registers.{register_number, Given}
 use Rattle.run_parts.proofs.RegisterLaws.{given_few, number_at, half_number}
-use Rattle.freshness.specs.Marks.{marked, in_marked, DownMarked, RegisterMarked, HeldMarked}
+use Rattle.freshness.specs.Marks.{marked, in_marked, OneMarked, DownMarked, RegisterMarked, HeldMarked}
 use Rattle.freshness.specs.Fresh.{FreshBy}
 use Rattle.freshness.proofs.MarkLaws.{Entries, either_none, in_marked_more, in_marked_next}
 
@@ -39,7 +38,7 @@ within es v n w e = go (ltb w n) refl
 
 -- ── One register ──
 
-module _ (g : List ℕ) (i n : ℕ) (z : List ℕ) where
+module _ (d n : ℕ) (z : List Bool) where
   -- the number is odd where the register means a symbol
   odd_symbol : (r : Register ℕ) → register_number r % 2 ≡ 1 → r.for_symbol ≡ true
   unfolding register_number
@@ -57,33 +56,32 @@ module _ (g : List ℕ) (i n : ℕ) (z : List ℕ) where
       go true h = absurd (h (omega arith))
       go false h = refl
 
-  pub register_symbol : (d : ℕ) → d ≡ get_or g i 0 → d % 2 ≡ 1 → (o : List ℕ) → Put z o (λ k. both (ltb (d / 2 % 65536) n) (eqb (d / 2 % 65536) k)) 1 → RegisterMarked g i n z o
-  register_symbol d e h o p = record {
+  pub register_symbol : d % 2 ≡ 1 → (o : List Bool) → OneMarked n (d / 2 % 65536) z o → RegisterMarked d n z o
+  register_symbol h o p = record {
     size = p.size;
-    holds = λ r es v q l s m t.
-        let f : d ≡ register_number r = e ∙ q in
+    holds = λ r es v f l s m t.
         let a : r.for_symbol ≡ true = odd_symbol r (rw f at h) in
         let b : d / 2 % 65536 ≡ r.value = ap (λ (c : ℕ). c / 2 % 65536) f ∙ half_number r l in
         rw (a, ← b) (in_marked_more es v n (d / 2 % 65536) z o p t m ∙ ap (either (in_marked es v z n)) (within es v n (d / 2 % 65536) s));
   }
 
-  pub register_term : (d : ℕ) → d ≡ get_or g i 0 → ¬ (d % 2 ≡ 1) → RegisterMarked g i n z z
-  register_term d e h = record {
+  pub register_term : ¬ (d % 2 ≡ 1) → RegisterMarked d n z z
+  register_term h = record {
     size = refl;
-    holds = λ r es v q l s m t.
-        let a : r.for_symbol ≡ false = even_term r (rw (e ∙ q) at h) in
+    holds = λ r es v f l s m t.
+        let a : r.for_symbol ≡ false = even_term r (rw f at h) in
         rw (a, either_none (in_marked es v z n));
   }
 
 -- ── All registers ──
 
 -- registers below i have marked their values
-pub record HeldTo (g : List ℕ) (m n i : ℕ) (z o : List ℕ) : Type 0 where
+pub record HeldTo (g : List ℕ) (m n i : ℕ) (z o : List Bool) : Type 0 where
   pub size : length o ≡ length z
   pub holds : (rs : List (Register ℕ)) (es : Entries) (v : ℕ) → Given rs g m → length es ≡ n → n ≤ 1536 → length z ≡ 1536
       → either (in_marked es v o n) (not (is_fresh signature1 (index signature1 es) (held (drop i rs)) v)) ≡ either (in_marked es v z n) (not (is_fresh signature1 (index signature1 es) (held rs) v))
 
-pub held_start : (g : List ℕ) (m n : ℕ) (z : List ℕ) → HeldTo g m n 0 z z
+pub held_start : (g : List ℕ) (m n : ℕ) (z : List Bool) → HeldTo g m n 0 z z
 held_start g m n z = record { size = refl; holds = λ rs es v k e l s. refl }
 
 -- the first of the registers left
@@ -102,7 +100,7 @@ held_first es v r rs q = go r.for_symbol (occurs_at signature1 es v r.value) ref
     go true false e = rw (e, either_none q)
     go false x e = rw (either_none q)
 
-pub held_more : (g : List ℕ) (m n i : ℕ) (z a o : List ℕ) → i < m → HeldTo g m n i z a → RegisterMarked g i n a o → HeldTo g m n (i + 1) z o
+pub held_more : (g : List ℕ) (m n i : ℕ) (z a o : List Bool) → i < m → HeldTo g m n i z a → RegisterMarked (get_or g i 0) n a o → HeldTo g m n (i + 1) z o
 held_more g m n i z a o h p q = record {
   size = q.size ∙ p.size;
   holds = λ rs es v k e l s.
@@ -114,7 +112,7 @@ held_more g m n i z a o h p q = record {
       ∙ ap (λ (t : List (Register ℕ)). either (in_marked es v a n) (not (is_fresh signature1 (index signature1 es) (held t) v))) (sym d) ∙ p.holds rs es v k e l s);
 }
 
-pub held_end : (g : List ℕ) (m n i : ℕ) (z o : List ℕ) → i ≤ m → m ≤ i → HeldTo g m n i z o → HeldMarked g m n z o
+pub held_end : (g : List ℕ) (m n i : ℕ) (z o : List Bool) → i ≤ m → m ≤ i → HeldTo g m n i z o → HeldMarked g m n z o
 unfolding held is_fresh
 held_end g m n i z o j h p = record {
   size = p.size;
@@ -128,20 +126,20 @@ held_end g m n i z o j h p = record {
 -- ── The answer ──
 
 -- an array without marks
-unfoldable pub no_marks : List ℕ
-no_marks = replicate 1536 0
+unfoldable pub no_marks : List Bool
+no_marks = replicate 1536 false
 
 no_marks_length : length no_marks ≡ 1536
 unfolding no_marks
-no_marks_length = length-replicate {A = ℕ} 1536 0
+no_marks_length = length-replicate {A = Bool} 1536 false
 
 in_no_marks : (es : Entries) (v n : ℕ) → n ≤ 1536 → in_marked es v no_marks n ≡ false
 unfolding in_marked some marked no_marks
 in_no_marks es v zero h = refl
-in_no_marks es v (suc n) h = rw (get_or-replicate {A = ℕ} 1536 n 0 0 (omega arith)) (in_no_marks es v n (omega arith))
+in_no_marks es v (suc n) h = rw (get_or-replicate {A = Bool} 1536 n false false (omega arith)) (in_no_marks es v n (omega arith))
 
 -- no lower value has v inside
-none_under : (es : Entries) (v : ℕ) (z : List ℕ) (n : ℕ) → n ≤ v → in_marked es v z n ≡ false
+none_under : (es : Entries) (v : ℕ) (z : List Bool) (n : ℕ) → n ≤ v → in_marked es v z n ≡ false
 unfolding in_marked some
 none_under es v z zero h = refl
 none_under es v z (suc n) h = rw (occurs_not_under signature1 v es n (omega arith), none_under es v z n (omega arith)) (by (marked z n))
@@ -181,7 +179,7 @@ module _ (w : List ℕ) (n : ℕ) (g : List ℕ) (m v : ℕ) where
       go z es rs k j l (inr (inl h)) = omega (arith, given_few j)
       go z es rs k j l (inr (inr h)) = omega (arith, k.count, kept_long k)
 
-  pub fresh_by : v < n → (y a o : List ℕ) → y ≡ no_marks → HeldMarked g m n y a → DownMarked w n v a o → FreshBy w n g m v (eqb (get_or o v 0) 0)
+  pub fresh_by : v < n → (y a o : List Bool) → y ≡ no_marks → HeldMarked g m n y a → DownMarked w n v a o → FreshBy w n g m v (not (get_or o v false))
   unfolding marked
   fresh_by h y a o u p' q = record {
     answer = λ z es rs k r l.
@@ -193,7 +191,7 @@ module _ (w : List ℕ) (n : ℕ) (g : List ℕ) (m v : ℕ) where
         p.holds rs es v r c j no_marks_length ∙ ap (λ (y : Bool). either y (not (is_fresh signature1 (index signature1 es) (held rs) v))) (in_no_marks es v n j) in
         let d : in_marked es v o (suc v) ≡ in_marked es v a n = rw t at (q.down j (p.size ∙ no_marks_length) h) in
         let f : in_marked es v o (suc v) ≡ marked o v = rw (in_marked_next es v o v, occurs_here signature1 v es (omega arith), none_under es v o v (omega arith)) (by (marked o v)) in
-        sym (twice (eqb (get_or o v 0) 0)) ∙ ap not (sym f ∙ d ∙ x) ∙ twice (is_fresh signature1 (index signature1 es) (held rs) v);
+        ap not (sym f ∙ d ∙ x) ∙ twice (is_fresh signature1 (index signature1 es) (held rs) v);
   }
     where
       by : (y : Bool) → either (both y true) false ≡ y

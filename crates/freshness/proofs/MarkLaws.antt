@@ -1,16 +1,15 @@
 -- Marks put, and passed down to parts: what occurs in marked values stays the same. Assumes nothing.
 use mathlib.Core.Path.{◌≡◌, refl, sym, ap, ◌∙◌}
-use mathlib.Core.Bool.{Bool, true, false, not, ◌&&◌, ◌||◌}
+use mathlib.Core.Bool.{Bool, true, false, ◌&&◌, ◌||◌}
 use mathlib.Core.List.{List}
 use Prim.Native.Nat.{ℕ, zero, suc, ◌+◌, ◌*◌, ◌<◌, ◌≤◌}
 use native.Mathlib.Omega.{arith}
 use lib.Dec.{ltb, eqb}
-use lib.ListN.{length, get_or, set}
+use lib.ListN.{length, get_or, set, length-set}
 use borrow.Author.Tests.{lt-ltb, le-ltb, eqb-true, eqb-false, ne_eqb, ltb-true, ltb-false}
-use Rattle.base.specs.Pick.{pick, both, either}
+use Rattle.base.specs.Pick.{both, either}
 use Rattle.base.specs.Search.{some}
-use Rattle.marks.specs.Put.{Put}
-use Rattle.marks.proofs.PutLaws.{put_one, put_none}
+use lib.Seq.{get_or-set_same, get_or-set_other}
 use Rattle.base.specs.Bytes.{byte, word}
 use Rattle.codes.specs.Rows.{field_bytes, width}
 use Rattle.entries.specs.Fields.{number, place_of, code, field}
@@ -24,7 +23,7 @@ use Rattle.decoded.specs.Values.{value_of}
 use Rattle.decoded.proofs.ValueLaws.{no_atom}
 use Rattle.value_table.specs.Values.{table_at}
 use Rattle.value_table.proofs.Reading.{table_length, entry_in}
-use Rattle.freshness.specs.Marks.{marked, in_marked, PartsMarked, DownMarked}
+use Rattle.freshness.specs.Marks.{marked, in_marked, OneMarked, PartsMarked, DownMarked}
 
 abbrev pub Entries : Type 0
 Entries = List (Entry signature1 Atom)
@@ -58,29 +57,26 @@ put_elsewhere false false f q x = refl
 
 -- ── One mark ──
 
-pub mark_there : (z : List ℕ) (n w : ℕ) → w < n → Put z (set z w 1) (λ i. both (ltb w n) (eqb w i)) 1
-mark_there z n w h = put_one z (ltb w n) w 1 (lt-ltb w n h)
+pub mark_there : (z : List Bool) (n w : ℕ) → w < n → OneMarked n w z (set z w true)
+unfolding marked
+mark_there z n w h = record { size = length-set z w true; at = λ i l. rw (lt-ltb w n h) (go i l (eqb w i) refl) }
+  where
+    go : (i : ℕ) → i < length z → (t : Bool) → eqb w i ≡ t → get_or (set z w true) i false ≡ either t (get_or z i false)
+    go i l true q = let p : w ≡ i = eqb-true w i q in rw p (get_or-set_same z i true false l)
+    go i l false q = get_or-set_other z w i true false (λ p. eqb-false w i q (sym p))
 
-pub mark_above : (z : List ℕ) (n w : ℕ) → n ≤ w → Put z z (λ i. both (ltb w n) (eqb w i)) 1
-mark_above z n w h = put_none z (ltb w n) w 1 (le-ltb w n h)
+pub mark_above : (z : List Bool) (n w : ℕ) → n ≤ w → OneMarked n w z z
+mark_above z n w h = record { size = refl; at = λ i l. rw (le-ltb w n h) }
 
-module _ (es : Entries) (v n w : ℕ) (z o : List ℕ) (p : Put z o (λ i. both (ltb w n) (eqb w i)) 1) (s : length z ≡ 1536) (l : n ≤ 1536) where
+module _ (es : Entries) (v n w : ℕ) (z o : List Bool) (p : OneMarked n w z o) (s : length z ≡ 1536) (l : n ≤ 1536) where
   -- does v occur in value i?
   abbrev occ : ℕ → Bool
   occ i = occurs_at signature1 es v i
 
-  marked_put : (i : ℕ) → i < length z → marked o i ≡ either (both (ltb w n) (eqb w i)) (marked z i)
-  unfolding marked
-  marked_put i h = go (both (ltb w n) (eqb w i)) (p.at i h)
-    where
-      go : (t : Bool) → get_or o i 0 ≡ pick t 1 (get_or z i 0) → not (eqb (get_or o i 0) 0) ≡ either t (not (eqb (get_or z i 0) 0))
-      go true e = rw e
-      go false e = rw e
-
   grow : (k : ℕ) → k ≤ n → some (λ i. both (marked o i) (occ i)) k ≡ either (some (λ i. both (marked z i) (occ i)) k) (both (both (ltb w k) (ltb w n)) (occ w))
   unfolding some
   grow zero h = rw (le-ltb w 0 (omega arith))
-  grow (suc k) h = rw (marked_put k (omega arith), grow k (omega arith)) (go (eqb w k) refl)
+  grow (suc k) h = rw (p.at k (omega arith), grow k (omega arith)) (go (eqb w k) refl)
     where
       go : (b : Bool) → eqb w k ≡ b
           → either (both (either (both (ltb w n) b) (marked z k)) (occ k)) (either (some (λ i. both (marked z i) (occ i)) k) (both (both (ltb w k) (ltb w n)) (occ w)))
@@ -106,17 +102,8 @@ module _ (es : Entries) (v n w : ℕ) (z o : List ℕ) (p : Put z o (λ i. both 
       twice true = refl
       twice false = refl
 
--- a mark is there or not
-pub is_marked : (z : List ℕ) (i : ℕ) → ¬ (get_or z i 0 ≡ 0) → marked z i ≡ true
-unfolding marked
-is_marked z i h = rw (ne_eqb (get_or z i 0) 0 h)
-
-pub is_unmarked : (z : List ℕ) (i : ℕ) → get_or z i 0 ≡ 0 → marked z i ≡ false
-unfolding marked
-is_unmarked z i h = rw h
-
 -- one value more is looked at
-pub in_marked_next : (es : Entries) (v : ℕ) (z : List ℕ) (n : ℕ) → in_marked es v z (suc n) ≡ either (both (marked z n) (occurs_at signature1 es v n)) (in_marked es v z n)
+pub in_marked_next : (es : Entries) (v : ℕ) (z : List Bool) (n : ℕ) → in_marked es v z (suc n) ≡ either (both (marked z n) (occurs_at signature1 es v n)) (in_marked es v z n)
 unfolding in_marked some
 in_marked_next es v z n = refl
 
@@ -174,15 +161,11 @@ module _ (w : List ℕ) (u : ℕ) where
   unfolding code place_of width byte
   tag_there = let e : 0 + u * 5 ≡ 5 * u = omega arith in rw e
 
-  first_there : field w 3 0 u 0 ≡ word w (5 * u + 1)
+  part_there : (j : ℕ) → field w 3 0 u j ≡ word w (5 * u + 1 + 2 * j)
   unfolding field number place_of width field_bytes byte
-  first_there = let e : 0 + u * 5 + 1 + 0 * 2 ≡ 5 * u + 1 = omega arith in rw e
+  part_there j = let e : 0 + u * 5 + 1 + j * 2 ≡ 5 * u + 1 + 2 * j = omega arith in rw e
 
-  second_there : field w 3 0 u 1 ≡ word w (5 * u + 3)
-  unfolding field number place_of width field_bytes byte
-  second_there = let e : 0 + u * 5 + 1 + 1 * 2 ≡ 5 * u + 3 = omega arith in rw e
-
-module _ (w z : List ℕ) (u : ℕ) where
+module _ (w : List ℕ) (z : List Bool) (u : ℕ) where
   pub parts_unmarked : marked z u ≡ false → PartsMarked w u z z
   parts_unmarked q = record { size = refl; parts = λ n v h l s k. rw (in_marked_next (table_at w n) v z u, q) }
 
@@ -199,14 +182,14 @@ module _ (w z : List ℕ) (u : ℕ) where
       quiet false b = refl
 
   pub parts_both : marked z u ≡ true → (t : ℕ) → t ≡ byte w (5 * u) → 0 < t → t < 3
-      → (a : ℕ) → a ≡ word w (5 * u + 1) → (m : List ℕ) → Put z m (λ i. both (ltb a u) (eqb a i)) 1
-      → (b : ℕ) → b ≡ word w (5 * u + 3) → (o : List ℕ) → Put m o (λ i. both (ltb b u) (eqb b i)) 1 → PartsMarked w u z o
+      → (a : ℕ) → a ≡ word w (5 * u + 1 + 2 * 0) → (m : List Bool) → OneMarked u a z m
+      → (b : ℕ) → b ≡ word w (5 * u + 1 + 2 * 1) → (o : List Bool) → OneMarked u b m o → PartsMarked w u z o
   parts_both x t te tl tm a ae m p b be o q = record {
     size = q.size ∙ p.size;
     parts = λ n v h l s k.
         let es : Entries = table_at w n in
         let g : occurs_at signature1 es v u ≡ either (both (ltb a u) (occurs_at signature1 es v a)) (both (ltb b u) (occurs_at signature1 es v b)) =
-        by_parts w u n v h k t a b tl tm (rw (te ∙ sym (tag_there w u), ae ∙ sym (first_there w u), be ∙ sym (second_there w u)) (entry_in w n u h)) in
+        by_parts w u n v h k t a b tl tm (rw (te ∙ sym (tag_there w u), ae ∙ sym (part_there w u 0), be ∙ sym (part_there w u 1)) (entry_in w n u h)) in
         let c = in_marked_more es v u a z m p s (omega arith) in
         let d = in_marked_more es v u b m o q (p.size ∙ s) (omega arith) in
         rw (in_marked_next es v z u, x, g, d, c) (turn (in_marked es v z u) (both (ltb a u) (occurs_at signature1 es v a)) (both (ltb b u) (occurs_at signature1 es v b)));
@@ -220,21 +203,21 @@ module _ (w z : List ℕ) (u : ℕ) where
 -- ── From the last value down ──
 
 -- values from j on have passed their marks down
-pub record DownTo (w : List ℕ) (n v : ℕ) (z : List ℕ) (j : ℕ) (o : List ℕ) : Type 0 where
+pub record DownTo (w : List ℕ) (n v : ℕ) (z : List Bool) (j : ℕ) (o : List Bool) : Type 0 where
   pub size : length o ≡ length z
   pub down : n ≤ 1536 → length z ≡ 1536 → in_marked (table_at w n) v o j ≡ in_marked (table_at w n) v z n
 
-pub down_start : (w z : List ℕ) (n v : ℕ) → DownTo w n v z n z
+pub down_start : (w : List ℕ) (z : List Bool) (n v : ℕ) → DownTo w n v z n z
 down_start w z n v = record { size = refl; down = λ l s. refl }
 
-pub down_more : (w z m o : List ℕ) (n v j u : ℕ) → j ≡ suc u → j ≤ n → v < u → DownTo w n v z j m → PartsMarked w u m o → DownTo w n v z u o
+pub down_more : (w : List ℕ) (z m o : List Bool) (n v j u : ℕ) → j ≡ suc u → j ≤ n → v < u → DownTo w n v z j m → PartsMarked w u m o → DownTo w n v z u o
 down_more w z m o n v j u e h k p q = record {
   size = q.size ∙ p.size;
   down = λ l s. q.parts n v (omega arith) l (p.size ∙ s) k ∙ ap (in_marked (table_at w n) v m) (sym e) ∙ p.down l s;
 }
 
-pub down_end : (w z o : List ℕ) (n v j : ℕ) → j ≤ v + 1 → (v < n → v < j) → DownTo w n v z j o → DownMarked w n v z o
+pub down_end : (w : List ℕ) (z o : List Bool) (n v j : ℕ) → j ≤ v + 1 → v < j → DownTo w n v z j o → DownMarked w n v z o
 down_end w z o n v j h k p = record {
   size = p.size;
-  down = λ l s i. let b : v < j = k i in let e : suc v ≡ j = omega arith in rw e (p.down l s);
+  down = λ l s i. let e : suc v ≡ j = omega arith in rw e (p.down l s);
 }

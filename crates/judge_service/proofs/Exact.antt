@@ -6,8 +6,6 @@ use Prim.Native.Nat.{ℕ, ◌<◌}
 use native.Mathlib.Omega.{arith}
 use lib.ListN.{length, take, drop}
 use lib.Seq.{take-append_seam}
-use Rattle.answers.specs.declared.Check.{Check}
-use Rattle.answers.specs.declared.Check.TheVariants.{Pass, Refuse}
 use Rattle.table_layout.specs.Layout.{symbols}
 use Rattle.buffers.specs.Over.{over}
 use Rattle.calculus.specs.Tables.{denoted}
@@ -29,6 +27,8 @@ use Rattle.type_service.proofs.ServiceLaws.{same_widest, not_both, refused_once}
 use Rattle.compile_service.specs.Files.{list_file}
 use Rattle.compile_service.proofs.ReadBack.{file_reads_back}
 use Rattle.judge_service.specs.Judged.{verdict_check, answer_check, Judged, table_refused, list_refused, list_judged, FaithfulFile}
+use Rattle.std.proofs.Common.{Ok, Err}
+use Rattle.answers.specs.Ladder.{Check}
 
 -- ── No second answer ──
 
@@ -41,7 +41,7 @@ module _ (t l : List ℕ) where
       answer_once1 halves (table_of t) (types_to Δ (symbols t)) k a b (rw (g, h) at p) q
 
   pub judged_once : (a b : Check) → Judged t l a → Judged t l b → a ≡ b
-  judged_once a b (table_refused r) (table_refused q) = ap Refuse (refused_once t _ _ r q)
+  judged_once a b (table_refused r) (table_refused q) = ap Err (refused_once t _ _ r q)
   judged_once a b (table_refused r) (list_refused w e) = absurd (not_both t _ _ w r)
   judged_once a b (table_refused r) (list_judged w e f p) = absurd (not_both t _ _ w r)
   judged_once a b (list_refused w e) (table_refused r) = absurd (not_both t _ _ w r)
@@ -53,7 +53,7 @@ module _ (t l : List ℕ) where
 
 -- ── Accepted exactly if faithful ──
 
-accepted_answer : (t : List ℕ) (Γ : Env signature1) (m : StatementList signature1) (a : Answer) → ListAnswerIs signature1 halves (table_of t) (types_to Γ (symbols t)) m a → answer_check a ≡ Pass
+accepted_answer : (t : List ℕ) (Γ : Env signature1) (m : StatementList signature1) (a : Answer) → ListAnswerIs signature1 halves (table_of t) (types_to Γ (symbols t)) m a → answer_check a ≡ Ok tt
     → FaithfulList signature1 halves (table_of t) (types_to Γ (symbols t)) m
 unfolding answer_check verdict_check
 accepted_answer t Γ m a (types_differ_at d) e = let y : ◌≡◌ {A = ℕ} 0 1 = cc in absurd (omega arith)
@@ -61,14 +61,14 @@ accepted_answer t Γ m a (types_equal {r = accepted} q (is_faithful f)) e = reco
 accepted_answer t Γ m a (types_equal {r = not_due i} q j) e = let y : ◌≡◌ {A = ℕ} 0 1 = cc in absurd (omega arith)
 accepted_answer t Γ m a (types_equal {r = unfinished k} q j) e = let y : ◌≡◌ {A = ℕ} 0 1 = cc in absurd (omega arith)
 
-pub accepted_is_faithful : (t l : List ℕ) (r : Check) → Judged t l r → r ≡ Pass → FaithfulFile t l
+pub accepted_is_faithful : (t l : List ℕ) (r : Check) → Judged t l r → r ≡ Ok tt → FaithfulFile t l
 accepted_is_faithful t l r (table_refused q) e = let y : ◌≡◌ {A = ℕ} 0 1 = cc in absurd (omega arith)
 accepted_is_faithful t l r (list_refused w q) e = let y : ◌≡◌ {A = ℕ} 0 1 = cc in absurd (omega arith)
 accepted_is_faithful t l r (list_judged {Γ = Γ} {m = m} {a = a} w q f p) e = record { Γ = Γ; list = m; widest = w; in_order = q; is_file = f; faithful = accepted_answer t Γ m a p e }
 
-pub faithful_is_accepted : (t l : List ℕ) (r : Check) → Judged t l r → FaithfulFile t l → r ≡ Pass
+pub faithful_is_accepted : (t l : List ℕ) (r : Check) → Judged t l r → FaithfulFile t l → r ≡ Ok tt
 unfolding answer_check verdict_check
-faithful_is_accepted t l r j f = judged_once t l r Pass j (list_judged {a = judged accepted} f.widest f.in_order f.is_file (types_equal f.faithful.same_types (is_faithful f.faithful.renders)))
+faithful_is_accepted t l r j f = judged_once t l r (Ok tt) j (list_judged {a = judged accepted} f.widest f.in_order f.is_file (types_equal f.faithful.same_types (is_faithful f.faithful.renders)))
 
 -- ── Ours among them ──
 
@@ -83,7 +83,7 @@ compiled_is_faithful t Γ w = record {
 }
 
 -- what the compile service wrote for a table, the judge accepts: of both services' own answers and bytes
-pub ours_is_accepted : (t z o : List ℕ) (n : ℕ) (r : Check) → Answered (list_file t) t z o Pass n → Judged t (take n o) r → r ≡ Pass
+pub ours_is_accepted : (t z o : List ℕ) (n : ℕ) (r : Check) → Answered (list_file t) t z o (Ok n) → Judged t (take n o) r → r ≡ Ok tt
 unfolding over
 ours_is_accepted t z o n r (written {Γ = Γ} w l) j =
     let e = take-append_seam (list_file t Γ) (drop (length (list_file t Γ)) z) in

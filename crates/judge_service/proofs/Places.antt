@@ -7,11 +7,9 @@ use Prim.Native.Nat.{ℕ, zero, suc, ◌+◌, ◌*◌, ◌≤◌, ◌<◌}
 use native.Mathlib.Nat.{lt_of_not-le}
 use native.Mathlib.Omega.{arith}
 use lib.ListN.{length, get_elem?, length-map}
-use Rattle.answers.specs.Ladder.{refusal, Rung, least}
+use Rattle.answers.specs.Ladder.{Check, refusal, Rung, least}
 use Rattle.answers.specs.Least.{Fault, here, later, Least, none, lowest}
 use Rattle.answers.specs.declared.Refusal.{Refusal}
-use Rattle.answers.specs.declared.Check.{Check}
-use Rattle.answers.specs.declared.Check.TheVariants.{Pass, Refuse}
 use Rattle.answers.proofs.Ladder.{after_refusal}
 use Rattle.base.specs.Bytes.{byte}
 use Rattle.codes.specs.Rows.{width}
@@ -41,6 +39,7 @@ use Rattle.decoded_list.proofs.FileLayout.{file_symbols, file_count}
 use Rattle.type_service.specs.Services.{IsWidest}
 use Rattle.type_service.proofs.ServiceLaws.{not_both}
 use Rattle.judge_service.specs.Judged.{verdict_check, answer_check, Judged, Fits, table_refused, list_refused, list_judged}
+use Rattle.std.proofs.Common.{Ok, Err}
 
 -- ── 1 to 5 ──
 
@@ -54,7 +53,7 @@ fault_within (r ∷ rs) (f, w) (here a) = rw a.named (f a.thing a.among)
 fault_within (r ∷ rs) (f, w) (later g) = fault_within rs w g
 fault_within [] _ x4 = elim x4 [ ]
 
-least_within : (rs : List Rung) {c : Check} (x : Refusal) → Within rs → Least rs c → c ≡ Refuse x → Fits x
+least_within : (rs : List Rung) {c : Check} (x : Refusal) → Within rs → Least rs c → c ≡ Err x → Fits x
 least_within rs x w (lowest {x = y} f g) e = let q : y ≡ x = cc in rw q at (fault_within rs w f)
 least_within rs x w (none f) e = let y : ◌≡◌ {A = ℕ} 0 1 = cc in absurd (omega arith)
 
@@ -89,13 +88,13 @@ module _ (s : List ℕ) (h : Bytes s) (free : ℕ) where
     ),
   )
 
-  list_refusal_fits : (x : Refusal) → least (list_rungs s free) ≡ Refuse x → Fits x
+  list_refusal_fits : (x : Refusal) → least (list_rungs s free) ≡ Err x → Fits x
   list_refusal_fits x e = go (least (frame_rungs s)) refl
     where
       go : (c : Check) → least (frame_rungs s) ≡ c → Fits x
-      go Pass q = least_within (list_rungs s free) x (all_within ((frame_passes s).0 q)) (list_least_fault s free) e
-      go (Refuse y) q =
-          let p : least (list_rungs s free) ≡ Refuse y = after_refusal (type_rungs s) (statement_rung s free ∷ []) y (after_refusal (frame_rungs s) (type_rung s ∷ []) y q) in
+      go (Ok tt) q = least_within (list_rungs s free) x (all_within ((frame_passes s).0 q)) (list_least_fault s free) e
+      go (Err y) q =
+          let p : least (list_rungs s free) ≡ Err y = after_refusal (type_rungs s) (statement_rung s free ∷ []) y (after_refusal (frame_rungs s) (type_rung s ∷ []) y q) in
           least_within (frame_rungs s) x frame_within (frame_least_fault s) (q ∙ sym p ∙ e)
 
 -- ── 11 ──
@@ -145,7 +144,7 @@ unfinished_below t ns ss n w ws f = first (follows_below signature1 (table.steps
 -- ── All of them ──
 
 -- a refusal that is given
-placed : (n f p : ℕ) (x : Refusal) → Refuse (refusal n f p) ≡ Refuse x → 0 < n → p < 65536 → Fits x
+placed : (n f p : ℕ) (x : Refusal) → ◌≡◌ {A = Check} (Err (refusal n f p)) (Err x) → 0 < n → p < 65536 → Fits x
 placed n f p x e l h =
     let q : refusal n f p ≡ x = cc in
     let m : n ≡ x.number = ap (λ (y : Refusal). y.number) q in
@@ -153,8 +152,8 @@ placed n f p x e l h =
     (omega arith, omega arith)
 
 module _ (t l : List ℕ) (h : Bytes l) where
-  answer_fits : (Γ : Env signature1) (m : StatementList signature1) (a : Answer) (x : Refusal) → IsWidest t Γ → least (list_rungs l (free_count t)) ≡ Pass → l ≡ list_bytes m
-      → ListAnswerIs signature1 halves (table_of t) (types_to Γ (table.symbols t)) m a → answer_check a ≡ Refuse x → Fits x
+  answer_fits : (Γ : Env signature1) (m : StatementList signature1) (a : Answer) (x : Refusal) → IsWidest t Γ → least (list_rungs l (free_count t)) ≡ Ok tt → l ≡ list_bytes m
+      → ListAnswerIs signature1 halves (table_of t) (types_to Γ (table.symbols t)) m a → answer_check a ≡ Err x → Fits x
   unfolding answer_check verdict_check
   answer_fits Γ m a x w p e j = go j
     where
@@ -170,7 +169,7 @@ module _ (t l : List ℕ) (h : Bytes l) where
       few_widest : length (types_to Γ (table.symbols t)) ≤ 96
       few_widest = omega (arith, listed_length Γ 0 (table.symbols t), ((table_passes t).0 w.sound).frame.few_symbols)
 
-      go : {a : Answer} → ListAnswerIs signature1 halves (table_of t) (types_to Γ (table.symbols t)) m a → answer_check a ≡ Refuse x → Fits x
+      go : {a : Answer} → ListAnswerIs signature1 halves (table_of t) (types_to Γ (table.symbols t)) m a → answer_check a ≡ Err x → Fits x
       go (types_differ_at {i = i} d) q = placed 11 1 i x q (omega arith) (omega (arith, differ_inside m.types (types_to Γ (table.symbols t)) 96 i few_types few_widest d))
       go (types_equal {r = accepted} s v) q = let y : ◌≡◌ {A = ℕ} 0 1 = cc in absurd (omega arith)
       go (types_equal {r = not_due i} s (is_not_due b f g)) q = placed 12 1 i x q (omega arith) (omega (arith, few_statements))
@@ -178,7 +177,7 @@ module _ (t l : List ℕ) (h : Bytes l) where
           placed 13 1 n x q (omega arith) (omega (arith, unfinished_below t ns m.statements n w' ws f, ((table_passes t).0 w.sound).frame.few_steps))
 
   -- every refusal of a list fits
-  pub refusal_fits : (Γ : Env signature1) (x : Refusal) (r : Check) → IsWidest t Γ → Judged t l r → r ≡ Refuse x → Fits x
+  pub refusal_fits : (Γ : Env signature1) (x : Refusal) (r : Check) → IsWidest t Γ → Judged t l r → r ≡ Err x → Fits x
   refusal_fits Γ x r w (table_refused q) e = absurd (not_both t Γ _ w q)
   refusal_fits Γ x r w (list_refused v q) e = list_refusal_fits l h (free_count t) x (q ∙ e)
   refusal_fits Γ x r w (list_judged {Γ = Δ} {m = m} {a = a} v q f p) e = answer_fits Δ m a x v q f p e

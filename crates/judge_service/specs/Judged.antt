@@ -1,10 +1,8 @@
 -- What the judge answers, in the words of the meaning: the table is refused, the list is refused by itself, or the list is judged
 -- against the table with its widest types; and what the file of a faithful list is. Assumes nothing: these are definitions.
-use Rattle.std.specs.Prelude.{◌≡◌, List, ℕ, ◌<◌}
-use Rattle.answers.specs.Ladder.{refusal, least}
+use Rattle.std.specs.Prelude.{◌≡◌, List, ℕ, ◌<◌, Ok, Err}
+use Rattle.answers.specs.Ladder.{refusal, least, Check}
 use Rattle.answers.specs.declared.Refusal.{Refusal}
-use Rattle.answers.specs.declared.Check.{Check}
-use Rattle.answers.specs.declared.Check.TheVariants.{Pass, Refuse}
 use Rattle.table_layout.specs.Layout.{symbols}
 use Rattle.table.specs.Faults.{table_rungs}
 use Rattle.list.specs.Faults.{list_rungs}
@@ -21,25 +19,25 @@ use Rattle.type_service.specs.Services.{IsWidest, TableRefused}
 
 -- document 01's number of a verdict, with file and place
 unfoldable pub verdict_check : Verdict → Check
-verdict_check accepted = Pass
-verdict_check (not_due i) = Refuse (refusal 12 1 i)
-verdict_check (unfinished k) = Refuse (refusal 13 1 k)
+verdict_check accepted = Ok tt
+verdict_check (not_due i) = Err (refusal 12 1 i)
+verdict_check (unfinished k) = Err (refusal 13 1 k)
 
 -- and of an answer
 unfoldable pub answer_check : Answer → Check
-answer_check (types_differ i) = Refuse (refusal 11 1 i)
+answer_check (types_differ i) = Err (refusal 11 1 i)
 answer_check (judged v) = verdict_check v
 
 -- the verdict on the statements of a list without faults 1 to 5 was given
 pub record VerdictGiven (t l : List ℕ) (r : Check) : Type 0 where
-  pub given : least (table_rungs t) ≡ Pass → least (list_rungs l (free_count t)) ≡ Pass → r ≡ verdict_check (judge signature1 halves (table_of t) (statements_of l))
+  pub given : least (table_rungs t) ≡ Ok tt → least (list_rungs l (free_count t)) ≡ Ok tt → r ≡ verdict_check (judge signature1 halves (table_of t) (statements_of l))
 
 -- the answer: a refusal of the table; a refusal of the list by itself; or what the list m is, whose file l is, beside the table and its
 -- widest types: `ListAnswerIs` says when it is accepted, and what 11, 12 and 13 and their places mean
 pub data Judged (t l : List ℕ) : Check → Type 0 where
-  table_refused : {x : Refusal} → TableRefused t x → Judged t l (Refuse x)
-  list_refused : {Γ : Env signature1} {x : Refusal} → IsWidest t Γ → least (list_rungs l (free_count t)) ≡ Refuse x → Judged t l (Refuse x)
-  list_judged : {Γ : Env signature1} {m : StatementList signature1} {a : Answer} → IsWidest t Γ → least (list_rungs l (free_count t)) ≡ Pass → l ≡ list_bytes m
+  table_refused : {x : Refusal} → TableRefused t x → Judged t l (Err x)
+  list_refused : {Γ : Env signature1} {x : Refusal} → IsWidest t Γ → least (list_rungs l (free_count t)) ≡ Err x → Judged t l (Err x)
+  list_judged : {Γ : Env signature1} {m : StatementList signature1} {a : Answer} → IsWidest t Γ → least (list_rungs l (free_count t)) ≡ Ok tt → l ≡ list_bytes m
       → ListAnswerIs signature1 halves (table_of t) (types_to Γ (symbols t)) m a → Judged t l (answer_check a)
 
 -- so it is of a table that is typed already: the slots w hold its widest types
@@ -55,6 +53,6 @@ pub record FaithfulFile (t l : List ℕ) : Type 0 where
   pub Γ : Env signature1
   pub list : StatementList signature1
   pub widest : IsWidest t Γ
-  pub in_order : least (list_rungs l (free_count t)) ≡ Pass
+  pub in_order : least (list_rungs l (free_count t)) ≡ Ok tt
   pub is_file : l ≡ list_bytes list
   pub faithful : FaithfulList signature1 halves (table_of t) (types_to Γ (symbols t)) list

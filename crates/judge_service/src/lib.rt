@@ -4,18 +4,17 @@
 
 ghost use Rattle.judge_service.specs.Judged.{VerdictGiven, Judged, TypedJudged};
 
-use answers::Check;
-use judging::Verdict;
+use answers::{Check, File};
+use judging::Unfaithful;
 
 // Numbers 12 and 13.
 fn check_statements(table: &[u8], list: &[u8]) -> Check
     ensures { VerdictGiven table.now list.now result }
 {
-    let v = judging::judge_statements(table, list);
-    match v {
-        Verdict::Accepted => Check::Pass,
-        Verdict::NotDue(i) => answers::refuse(12, codes::LIST, i as usize),
-        Verdict::Unfinished(k) => answers::refuse(13, codes::LIST, k as usize),
+    match judging::judge_statements(table, list) {
+        Ok(()) => Ok(()),
+        Err(Unfaithful::NotDue(i)) => answers::refuse(12, File::List, i as usize),
+        Err(Unfaithful::Unfinished(k)) => answers::refuse(13, File::List, k as usize),
     }
 }
 
@@ -23,14 +22,8 @@ fn check_statements(table: &[u8], list: &[u8]) -> Check
 pub fn judge_typed(table: &[u8], work: &[u8], list: &[u8]) -> Check
     ensures { TypedJudged table.now work.now list.now result }
 {
-    let b = list::check_list(list, free_symbols::free_count(table));
-    let Check::Pass = b else {
-        return b;
-    };
-    let c = type_match::check_alike(list, work, table_layout::symbol_count(table));
-    let Check::Pass = c else {
-        return c;
-    };
+    list::check_list(list, free_symbols::free_count(table))?;
+    type_match::check_alike(list, work, table_layout::symbol_count(table))?;
     check_statements(table, list)
 }
 
@@ -39,9 +32,6 @@ pub fn judge_list(table: &[u8], list: &[u8]) -> Check
     ensures { Judged table.now list.now result }
 {
     let mut work = [0u8; 12384];
-    let a = type_service::type_slots(table, &mut work);
-    let Check::Pass = a else {
-        return a;
-    };
+    type_service::type_slots(table, &mut work)?;
     judge_typed(table, &work, list)
 }

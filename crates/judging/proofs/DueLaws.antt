@@ -13,7 +13,6 @@ use Rattle.base.specs.Bytes.{byte}
 use Rattle.base.specs.Pick.{pick}
 use Rattle.base.proofs.BothLaws.{both_right}
 use Rattle.answers.specs.Ladder.{least}
-use Rattle.answers.specs.declared.Check.TheVariants.{Pass}
 use Rattle.codes.specs.Rows.{cell}
 use Rattle.entries.specs.Fields.{code}
 use Rattle.entries.specs.Tiling.{listed}
@@ -32,6 +31,7 @@ use Rattle.judging.specs.Meanings.{Meant, meant_at}
 use Rattle.judging.specs.Due.{due_from, due_op, operands_due, step_after, half_after, new_of}
 use Rattle.judging.proofs.TableMeanings.{register_means, bound_small}
 use Rattle.judging.proofs.SayLaws.{act_code, due_code, says_send, says_receive, says_fresh, says_compare, says_half, says_decrypt}
+use Rattle.std.proofs.Common.{Ok}
 
 -- ── Step by step ──
 
@@ -67,7 +67,7 @@ pub record DueIs (t : List ℕ) (k : ℕ) (half : Bool) : Type 0 where
   pub small : (p q x : ℕ) → operands_due t k op p q x ≡ true → ¬ (cell 2 op 4 ≡ 0) → x < 128
   pub left_done : op ≡ 4 → code t 1 (steps_at t) k ≡ 4
 
-module _ (t : List ℕ) (e : least (table_rungs t) ≡ Pass) (k : ℕ) (h : k < steps t) where
+module _ (t : List ℕ) (e : least (table_rungs t) ≡ Ok tt) (k : ℕ) (h : k < steps t) where
   abbrev a : ℕ
   a = step_field t k 0
 

@@ -6,7 +6,7 @@ use mathlib.Core.List.{List, [], ◌∷◌}
 use Prim.Native.Nat.{ℕ, zero, suc, ◌+◌, ◌-◌, ◌<◌, ◌≤◌}
 use native.Mathlib.Omega.{arith}
 use lib.Dec.{eqb}
-use lib.ListN.{length, get_elem?}
+use lib.ListN.{get_elem?}
 use borrow.Author.Tests.{eq-eqb, ne_eqb, eqb-true}
 use Rattle.base.specs.Bytes.{byte}
 use Rattle.base.specs.Pick.{pick, both}
@@ -14,7 +14,6 @@ use Rattle.base.specs.Search.{Search, clean, wrong, walk, first}
 use Rattle.base.proofs.BothLaws.{both_parts, both_true}
 use Rattle.base.proofs.Searched.{Found, first_bad, found}
 use Rattle.answers.specs.Ladder.{least}
-use Rattle.answers.specs.declared.Check.TheVariants.{Pass}
 use Rattle.codes.specs.Rows.{cell}
 use Rattle.entries.specs.Fields.{code}
 use Rattle.entries.specs.Tiling.{listed}
@@ -30,12 +29,14 @@ use Rattle.decoded.proofs.Passed.{table_passed}
 use Rattle.decoded.proofs.Ranges.{term_code_lem}
 use Rattle.decoded.specs.Indexes.{entries_of, meaning_of}
 use Rattle.decoded.proofs.Tabled.{counts_small, term_as, a_compound}
+use Rattle.judging.specs.declared.Registers.{Registers}
 use Rattle.judging.specs.declared.State.{State}
-use Rattle.judging.specs.Meanings.{coded, Small, Meant, Held, Gives, meant_at}
+use Rattle.judging.specs.Meanings.{coded, Small, Meant, Known, Gives, meant_at}
 use Rattle.judging.specs.Due.{due_from, fits_at}
 use Rattle.judging.specs.Turns.{Answer, HalfDone, WentOn}
 use Rattle.judging.proofs.TableMeanings.{register_means}
 use Rattle.judging.proofs.SayLaws.{as_test, Tells}
+use Rattle.std.proofs.Common.{Ok}
 
 -- ── Kinds ──
 
@@ -86,7 +87,7 @@ module _ (t : List ℕ) (ms : List Meaning) (u v : ℕ) (k : Two Seal1) where
           let (q, z) = both_parts b c r in
           rw (two_once k K (eqb-true _ _ p), f.0 q, g.0 z)
 
-  module _ (e : least (table_rungs t) ≡ Pass) (p q : ℕ) (kind : ℕ) (n : kind ≡ two_code k) (l : Meant ms u p) (r : Meant ms v q) where
+  module _ (e : least (table_rungs t) ≡ Ok tt) (p q : ℕ) (kind : ℕ) (n : kind ≡ two_code k) (l : Meant ms u p) (r : Meant ms v q) where
     -- any term
     fits_at_lem : (i : ℕ) → i < terms t → fits signature1 (meant signature1 (entries_of t)) wanted (term_at t i) ≡ fits_at t kind p q i
     unfolding fits fits_at entry_of
@@ -138,14 +139,14 @@ module _ (t : List ℕ) (ms : List Meaning) (u v : ℕ) (k : Two Seal1) where
       built_none z = turn_found clean z
 
       -- term i is the first that fits
-      pub built_on : (i : ℕ) (z z' : List ℕ) (registers : ℕ) → wrong i ≡ first misses 0 (terms t) → HalfDone t a → Held ms z → registers ≡ length ms → Gives registers (255 - i) z z' → WentOn t ms z' (kind + 6) answer a
+      pub built_on : (i : ℕ) (z z' : Registers) → wrong i ≡ first misses 0 (terms t) → HalfDone t a → Known ms z → Gives (255 - i) z z' → WentOn t ms z' (kind + 6) answer a
       unfolding coded Small
-      built_on i z z' registers w half_done held m g =
+      built_on i z z' w half_done known g =
           record {
             new = term i ∷ [];
             turned = turn_found (wrong i) w;
             count = rw n (two_gives k);
-            held = g ms (term i) m (inside (rw (← w) at (found misses 0 (terms t) (omega arith)))) refl held;
+            known = g ms (term i) (inside (rw (← w) at (found misses 0 (terms t) (omega arith)))) refl known;
             done = half_done;
           }
         where

@@ -6,6 +6,7 @@ pub mod SayLaws
 pub mod DueLaws
 pub mod TurnLaws
 pub mod SaidLaws
+pub mod FindRange
 pub mod FindLaws
 pub mod ReadLaws
 pub mod ListedLaws

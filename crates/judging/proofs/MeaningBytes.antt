@@ -3,16 +3,18 @@ use mathlib.Core.Path.{◌≡◌, refl, sym, ap, ◌∙◌}
 use mathlib.Core.Bool.{Bool, true, false}
 use mathlib.Core.Option.{some, some_inj}
 use mathlib.Core.List.{List, [], ◌∷◌, ◌++◌}
-use Prim.Native.Nat.{ℕ, ◌<◌, ◌≤◌}
+use Prim.Native.Nat.{ℕ, ◌+◌, ◌<◌, ◌≤◌}
 use native.Mathlib.Omega.{arith}
 use lib.Dec.{eqb}
-use lib.ListN.{length, get_or, get_elem?, length-append}
+use lib.ListN.{length, get_or, get_elem?, set, length-append}
 use borrow.Author.Tests.{eq-eqb, eqb-true, eqb-false}
 use Rattle.base.specs.Pick.{pick, both}
 use Rattle.marks.specs.Put.{Put}
+use Rattle.marks.proofs.PutLaws.{put_one}
 use Rattle.rendering.specs.Judge.{Meaning, symbol, term}
 use Rattle.calculus.proofs.Lists.{get_more}
-use Rattle.judging.specs.Meanings.{coded, Small, Meant, Held}
+use Rattle.judging.specs.declared.Registers.{Registers}
+use Rattle.judging.specs.Meanings.{coded, Small, Meant, Held, Known}
 
 -- ── Bytes ──
 
@@ -43,7 +45,7 @@ pub meant_more : (ms ns : List Meaning) {p byte : ℕ} → Meant ms p byte → M
 meant_more ms ns {p} r = record { meaning = r.meaning; is_given = get_more ms ns p r.is_given; small = r.small; as_byte = r.as_byte }
 
 -- the next register is noted
-pub held_more : (ms : List Meaning) (m : Meaning) (z o : List ℕ) (registers v : ℕ) → registers ≡ length ms → registers < 256 → Small m → v ≡ coded m → Held ms z
+held_more : (ms : List Meaning) (m : Meaning) (z o : List ℕ) (registers v : ℕ) → registers ≡ length ms → registers < 256 → Small m → v ≡ coded m → Held ms z
     → Put z o (λ i. both true (eqb registers i)) v → Held (ms ++ (m ∷ [])) o
 held_more ms m z o registers v c l s e h p =
     record { size = p.size ∙ h.size; at = λ i u w. go i u w (eqb registers i) refl (p.at i (rw h.size u)) }
@@ -58,5 +60,17 @@ held_more ms m z o registers v c l s e h p =
         rw g (meant_more ms (m ∷ []) (h.at i u k))
 
 -- the next register can't be named
-pub held_past : (ms : List Meaning) (m : Meaning) (z : List ℕ) (registers : ℕ) → registers ≡ length ms → 256 ≤ registers → Held ms z → Held (ms ++ (m ∷ [])) z
+held_past : (ms : List Meaning) (m : Meaning) (z : List ℕ) (registers : ℕ) → registers ≡ length ms → 256 ≤ registers → Held ms z → Held (ms ++ (m ∷ [])) z
 held_past ms m z registers c l h = record { size = h.size; at = λ i u w. meant_more ms (m ∷ []) (h.at i u (omega arith)) }
+
+module _ (ms : List Meaning) (m : Meaning) (r : Registers) (k : Known ms r) where
+  -- one register more, which can be named
+  pub known_more : (v : ℕ) → r.given < 256 → Small m → v ≡ coded m → Known (ms ++ (m ∷ [])) (record { meanings = set r.meanings r.given v; given = r.given + 1 })
+  known_more v l s e = record {
+    held = held_more ms m r.meanings _ r.given v (omega (arith, k.count)) l s e k.held (put_one r.meanings true r.given v refl);
+    count = omega (arith, k.count, length-append ms (m ∷ []));
+  }
+
+  -- which can't
+  pub known_past : 256 ≤ r.given → Known (ms ++ (m ∷ [])) r
+  known_past l = record { held = held_past ms m r.meanings (length ms) refl (omega (arith, k.count)) k.held; count = omega (arith, k.count, length-append ms (m ∷ [])) }

@@ -11,7 +11,6 @@ use lib.ListN.{get_or, get_elem?}
 use borrow.Author.Tests.{eqb-true, eqb-false}
 use Rattle.base.specs.Pick.{pick}
 use Rattle.answers.specs.Ladder.{least}
-use Rattle.answers.specs.declared.Check.TheVariants.{Pass}
 use Rattle.codes.specs.Rows.{cell, limits_of}
 use Rattle.entries.specs.Fields.{code}
 use Rattle.table_layout.specs.Layout.{symbols, terms, steps, terms_at, steps_at, term_field, step_field, step_role}
@@ -24,8 +23,9 @@ use Rattle.decoded.specs.Indexes.{meaning_of}
 use Rattle.decoded.proofs.Tabled.{counts_small, a_leaf, a_compound}
 use Rattle.judging.specs.Meanings.{coded, Small, Meant, meant_at}
 use Rattle.judging.proofs.MeaningBytes.{byte_means, means_byte}
+use Rattle.std.proofs.Common.{Ok}
 
-module _ (t : List ℕ) (e : least (table_rungs t) ≡ Pass) where
+module _ (t : List ℕ) (e : least (table_rungs t) ≡ Ok tt) where
   -- a term's meaning is small, and its byte is the one that is read
   pub meaning_at : (i : ℕ) → i < terms t → Small (meaning_of t i) × (meant_at t i ≡ coded (meaning_of t i))
   unfolding meaning_of meant_by meant_at Small coded

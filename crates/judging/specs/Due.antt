@@ -1,5 +1,5 @@
 -- What is due at a step, by the bytes of the table, and which terms a build may make. Assumes nothing: these are definitions.
-use Rattle.std.specs.Prelude.{◌≡◌, Bool, false, List, [], ◌∷◌, ◌++◌, map, ℕ, zero, suc, ◌+◌, ◌-◌, ◌<◌, eqb, length, drop}
+use Rattle.std.specs.Prelude.{◌≡◌, Bool, false, List, [], ◌∷◌, ◌++◌, map, ℕ, zero, suc, ◌+◌, ◌-◌, ◌<◌, eqb, drop}
 use Rattle.base.specs.Pick.{pick, both}
 use Rattle.codes.specs.Rows.{cell}
 use Rattle.entries.specs.Fields.{code}
@@ -11,7 +11,8 @@ use Rattle.rendering.specs.Rendering.{halves, dues}
 use Rattle.rendering.specs.Judge.{Meaning, symbol, DuesByIndex}
 use Rattle.decoded.specs.Table.{step_at}
 use Rattle.decoded.specs.Indexes.{meaning_of}
-use Rattle.judging.specs.Meanings.{Held, meant_at}
+use Rattle.judging.specs.Meanings.{Known, meant_at}
+use Rattle.judging.specs.declared.Registers.{Registers}
 
 -- what is due from step k on; where the left half of a split is done, all but that
 unfoldable pub due_from : List ℕ → ℕ → Bool → DuesByIndex signature1
@@ -55,8 +56,8 @@ abbrev pub new_of : ℕ → ℕ → List Meaning
 new_of op x = pick (eqb (cell 2 op 4) 0) [] (symbol x ∷ [])
 
 -- whatever the registers mean, what the statement gives follows
-abbrev pub BindsNext : ℕ → ℕ → ℕ → List ℕ → List ℕ → Type 0
-BindsNext registers op x array array' = (ms : List Meaning) → registers ≡ length ms → (¬ (cell 2 op 4 ≡ 0) → x < 128) → Held ms array → Held (ms ++ new_of op x) array'
+abbrev pub BindsNext : ℕ → ℕ → Registers → Registers → Type 0
+BindsNext op x r r' = (ms : List Meaning) → (¬ (cell 2 op 4 ≡ 0) → x < 128) → Known ms r → Known (ms ++ new_of op x) r'
 
 -- term i is of a kind, and its parts mean p and q
 unfoldable pub fits_at : List ℕ → ℕ → ℕ → ℕ → ℕ → Bool

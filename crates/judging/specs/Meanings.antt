@@ -1,11 +1,12 @@
 -- What registers mean, as bytes: symbol x is x, and compound term i is 255 - i. Assumes nothing: these are definitions.
-use Rattle.std.specs.Prelude.{◌≡◌, List, [], ◌∷◌, ◌++◌, ℕ, ◌-◌, ◌<◌, eqb, length, get_or}
+use Rattle.std.specs.Prelude.{◌≡◌, List, [], ◌∷◌, ◌++◌, ℕ, ◌-◌, ◌<◌, min, eqb, length, get_or}
 use Rattle.std.proofs.Math.Option.{some}
 use Rattle.std.proofs.Math.ListN.{get_elem?}
 use Rattle.base.specs.Pick.{pick}
 use Rattle.entries.specs.Fields.{code}
 use Rattle.table_layout.specs.Layout.{terms_at, term_field}
 use Rattle.rendering.specs.Judge.{Meaning, symbol, term}
+use Rattle.judging.specs.declared.Registers.{Registers}
 
 -- a meaning as a byte
 unfoldable pub coded : Meaning → ℕ
@@ -29,10 +30,14 @@ pub record Held (ms : List Meaning) (array : List ℕ) : Type 0 where
   pub size : length array ≡ 256
   pub at : (p : ℕ) → p < 256 → p < length ms → Meant ms p (get_or array p 0)
 
+-- and it is known how many of them are given
+pub record Known (ms : List Meaning) (r : Registers) : Type 0 where
+  pub held : Held ms r.meanings
+  pub count : r.given ≡ min (length ms) 256
+
 -- whatever the registers mean, one more means what a byte says
-abbrev pub Gives : ℕ → ℕ → List ℕ → List ℕ → Type 0
-Gives registers byte array array' =
-    (ms : List Meaning) (m : Meaning) → registers ≡ length ms → Small m → byte ≡ coded m → Held ms array → Held (ms ++ (m ∷ [])) array'
+abbrev pub Gives : ℕ → Registers → Registers → Type 0
+Gives byte r r' = (ms : List Meaning) (m : Meaning) → Small m → byte ≡ coded m → Known ms r → Known (ms ++ (m ∷ [])) r'
 
 -- what index i of the table means, as a byte
 unfoldable pub meant_at : List ℕ → ℕ → ℕ

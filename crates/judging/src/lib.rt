@@ -1,156 +1,139 @@
 // The judge's walk over a list's statements: numbers 12 and 13.
 // What a register means is one byte: symbol x is x, and compound term i is 255 - i, so that equal meanings are equal bytes.
-// An array holds the meanings of registers 0 to 255; those above can't be named, and are only counted.
+// Registers above 255 can't be named, so what they mean is not kept.
 #![tactic(auto)]
 
 ghost use Rattle.std.specs.Prelude.{◌≡◌, not, ◌+◌, ◌<◌};
-ghost use Rattle.base.specs.Pick.{both};
 ghost use Rattle.base.specs.Search.{first};
 ghost use Rattle.table_layout.specs.Layout.{terms};
 ghost use Rattle.judging.specs.Meanings.{meant_at, Gives};
 ghost use Rattle.judging.specs.Due.{BindsNext, due_op, operands_due, is_due, fits_at};
-ghost use Rattle.judging.specs.Turns.{found_as, Next, BuildTurns, SayTurns, Turns, WalksOn};
+ghost use Rattle.judging.specs.Turns.{found_as, Next, BuildTurns, SayTurns, Turns};
 ghost use Rattle.judging.specs.Verdicts.{at_end_of, StatementsJudged};
 
+use codes::Kind;
+
 // What is due next: a statement of a step; where the left half of a split is done, the right half.
-#[derive(Drop)]
+#[derive(Clone, Copy)]
 pub struct State {
     pub step: u8,
     pub half: bool,
 }
 
-// A statement was the next one due or a permitted build; or neither.
+// What the registers mean that are given so far.
 #[derive(Drop)]
-pub enum Turn {
-    On(State),
-    Stop,
+pub struct Registers {
+    pub meanings: [u8; 256],
+    pub given: usize,
 }
 
-// A term of the table; or none.
-#[derive(Drop)]
-pub enum Found {
-    At(u8),
-    Nothing,
+// A statement as it is judged: its op, what its registers mean, and its symbol.
+#[derive(Clone, Copy)]
+struct Statement {
+    op: u8,
+    p: u8,
+    q: u8,
+    x: u8,
 }
 
-// All is done; a statement that is neither the next one due nor a permitted build; a step that is not finished at the end.
-#[derive(Drop)]
-pub enum Verdict {
-    Accepted,
+// What is wrong: a statement that is neither the next one due nor a permitted build; a step that is not finished at the end.
+#[derive(Clone, Copy, PartialEq, Eq)]
+pub enum Unfaithful {
     NotDue(u16),
     Unfinished(u8),
 }
 
 // What term i means.
+#[tactic(auto, unfolding(crate::specs::Meanings::meant_at))]
 fn meant(s: &[u8], i: u8) -> u8
     ensures { result ≡ meant_at s.now i }
 {
     if table_layout::term_code(s, i) == 0 {
-        return table_layout::term_field(s, i, 0);
-    }
-    255 - i
-}
-
-// Notes what the next register means, if it can be named.
-fn give(meanings: &mut [u8; 256], registers: usize, meaning: u8)
-    ensures { Gives registers meaning meanings.old meanings.new }
-{
-    if registers < 256 {
-        marks::put(meanings, true, registers as u8, meaning);
+        table_layout::term_field(s, i, 0)
+    } else {
+        255 - i
     }
 }
 
-// Notes that the next register means symbol x, if the statement gives one.
-fn bind(meanings: &mut [u8; 256], registers: usize, op: u8, x: u8)
-    ensures { BindsNext registers op x meanings.old meanings.new }
-{
-    if codes::cell_at(codes::STATEMENT, op, 4) == 0 {
-        return;
+impl Registers {
+    // Gives the next register, if it can be named.
+    fn give(&mut self, meaning: u8)
+        ensures { Gives meaning self.old self.new }
+    {
+        if self.given < 256 {
+            self.meanings[self.given] = meaning;
+            self.given += 1;
+        }
     }
-    give(meanings, registers, x);
-}
 
-fn and(a: bool, b: bool) -> bool
-    ensures { result ≡ both a b }
-{
-    if a {
-        return b;
+    // Gives the next register the meaning of symbol x, if a statement of this op gives one.
+    fn bind(&mut self, op: u8, x: u8)
+        ensures { BindsNext op x self.old self.new }
+    {
+        if codes::cell_at(Kind::Statement, op, 4) != 0 {
+            self.give(x);
+        }
     }
-    false
 }
 
 // Term i is of that kind, and its parts mean p and q.
+#[tactic(auto, unfolding(crate::specs::Due::fits_at))]
 fn fits(s: &[u8], i: u8, kind: u8, p: u8, q: u8) -> bool
     ensures { result ≡ fits_at s.now kind p q i }
 {
-    if table_layout::term_code(s, i) == kind {
-        if meant(s, table_layout::term_field(s, i, 0)) == p {
-            return meant(s, table_layout::term_field(s, i, 1)) == q;
-        }
-    }
-    false
+    table_layout::term_code(s, i) == kind
+        && meant(s, table_layout::term_field(s, i, 0)) == p
+        && meant(s, table_layout::term_field(s, i, 1)) == q
 }
 
 // The first such term.
-fn find(s: &[u8], kind: u8, p: u8, q: u8) -> Found
+fn find(s: &[u8], kind: u8, p: u8, q: u8) -> Option<u8>
     ensures { found_as result ≡ first (λ i. not (fits_at s.now kind p q i)) 0 (terms s.now) }
 {
-    let n = table_layout::term_count(s);
-    let mut i = 0;
-    while i < n {
-        if fits(s, i, kind, p, q) {
-            return Found::At(i);
-        }
-        i += 1;
-    }
-    Found::Nothing
+    (0..table_layout::term_count(s)).find(|&i| fits(s, i, kind, p, q))
 }
 
 // The op of the statement that a step makes due.
+#[tactic(auto, unfolding(crate::specs::Due::due_op))]
 fn due_op(step: u8, half: bool) -> u8
     ensures { result ≡ due_op step half }
 {
     match step {
-        0 => 0,
-        1 => 1,
-        2 => 2,
-        3 => 3,
-        4 => {
-            if half {
-                return 5;
-            }
-            4
-        }
+        0..=3 => step,
+        4 if half => 5,
+        4 => 4,
         5 => 6,
         6..=255 => 9,
     }
 }
 
-// The registers of a statement mean the terms of step k, and its symbol is the one bound. They mean p and q.
-fn operands_due(s: &[u8], k: u8, op: u8, p: u8, q: u8, x: u8) -> bool
-    ensures { result ≡ operands_due s.now k op p q x }
+// The registers of a statement mean the terms of step k, and its symbol is the one bound.
+#[tactic(auto, unfolding(crate::specs::Due::operands_due))]
+fn operands_due(s: &[u8], k: u8, statement: Statement) -> bool
+    ensures { result ≡ operands_due s.now k statement.op statement.p statement.q statement.x }
 {
+    let Statement { op, p, q, x } = statement;
     let first = meant(s, table_layout::step_field(s, k, 0)) == p;
     let second = meant(s, table_layout::step_field(s, k, 1)) == q;
     let symbol = table_layout::step_field(s, k, 2) == x;
     match op {
-        0 => and(first, second),
-        1 => and(first, symbol),
+        0 => first && second,
+        1 => first && symbol,
         2 => symbol,
-        3 => and(first, second),
-        4 => and(first, symbol),
-        5 => and(first, table_layout::step_field(s, k, 3) == x),
-        6 => and(first, and(second, symbol)),
+        3 => first && second,
+        4 => first && symbol,
+        5 => first && table_layout::step_field(s, k, 3) == x,
+        6 => first && second && symbol,
         7..=255 => false,
     }
 }
 
 // The statement is the one that step k makes due.
-fn is_due(s: &[u8], k: u8, half: bool, op: u8, p: u8, q: u8, x: u8) -> bool
-    ensures { result ≡ is_due s.now k half op p q x }
+#[tactic(auto, unfolding(crate::specs::Due::is_due))]
+fn is_due(s: &[u8], k: u8, half: bool, statement: Statement) -> bool
+    ensures { result ≡ is_due s.now k half statement.op statement.p statement.q statement.x }
 {
-    let step = table_layout::step_code(s, k);
-    and(op == due_op(step, half), operands_due(s, k, op, p, q, x))
+    statement.op == due_op(table_layout::step_code(s, k), half) && operands_due(s, k, statement)
 }
 
 // What is due after a statement of step k.
@@ -158,15 +141,10 @@ fn after(op: u8, k: u8) -> State
     requires { k < 255 }
     ensures { Next op k result }
 {
-    if op == 4 {
-        return State {
-            step: k,
-            half: true,
-        };
-    }
+    let half = op == 4;
     State {
-        step: k + 1,
-        half: false,
+        step: if half { k } else { k + 1 },
+        half,
     }
 }
 
@@ -174,110 +152,79 @@ fn after(op: u8, k: u8) -> State
 fn build(
     s: &[u8],
     kind: u8,
-    p: u8,
-    q: u8,
-    meanings: &mut [u8; 256],
-    registers: usize,
+    statement: Statement,
+    registers: &mut Registers,
     state: State,
-) -> Turn
-    ensures { BuildTurns s.now kind p q meanings.old meanings.new registers state result }
+) -> Option<State>
+    ensures { BuildTurns s.now kind statement.p statement.q registers.old registers.new state result }
 {
-    let f = find(s, kind, p, q);
-    let Found::At(i) = f else {
-        return Turn::Stop;
-    };
-    give(meanings, registers, 255 - i);
-    Turn::On(state)
+    let i = find(s, kind, statement.p, statement.q)?;
+    registers.give(255 - i);
+    Some(state)
 }
 
 // Any other statement: it has to be the next one due.
-fn say(
-    s: &[u8],
-    op: u8,
-    p: u8,
-    q: u8,
-    x: u8,
-    meanings: &mut [u8; 256],
-    registers: usize,
-    state: State,
-) -> Turn
-    ensures { SayTurns s.now op p q x meanings.old meanings.new registers state result }
+fn say(s: &[u8], statement: Statement, registers: &mut Registers, state: State) -> Option<State>
+    ensures { SayTurns s.now statement.op statement.p statement.q statement.x registers.old registers.new state result }
 {
     let k = state.step;
-    if k < table_layout::step_count(s) {
-        if is_due(s, k, state.half, op, p, q, x) {
-            bind(meanings, registers, op, x);
-            return Turn::On(after(op, k));
-        }
+    if k < table_layout::step_count(s) && is_due(s, k, state.half, statement) {
+        registers.bind(statement.op, statement.x);
+        return Some(after(statement.op, k));
     }
-    Turn::Stop
+    None
 }
 
-// One statement.
+// One statement: what is due after it, if it was the next one due or a permitted build.
 fn take_turn(
     table: &[u8],
     list: &[u8],
     base: u32,
     i: u16,
-    meanings: &mut [u8; 256],
-    registers: usize,
+    registers: &mut Registers,
     state: State,
-) -> Turn
-    ensures { Turns table.now list.now base i meanings.old meanings.new registers state result }
+) -> Option<State>
+    ensures { Turns table.now list.now base i registers.old registers.new state result }
 {
-    let op = entries::code_at(list, codes::STATEMENT, base, i);
-    let p = marks::get(meanings, list::operand_at(list, base, i, 0));
-    let q = marks::get(meanings, list::operand_at(list, base, i, 1));
-    if op == 7 {
-        return build(table, 1, p, q, meanings, registers, state);
+    let statement = Statement {
+        op: entries::code_at(list, Kind::Statement, base, i),
+        p: marks::get(&registers.meanings, list::operand_at(list, base, i, 0)),
+        q: marks::get(&registers.meanings, list::operand_at(list, base, i, 1)),
+        x: list::operand_at(list, base, i, 2),
+    };
+    match statement.op {
+        7 => build(table, 1, statement, registers, state),
+        8 => build(table, 2, statement, registers, state),
+        _ => say(table, statement, registers, state),
     }
-    if op == 8 {
-        return build(table, 2, p, q, meanings, registers, state);
-    }
-    let x = list::operand_at(list, base, i, 2);
-    say(table, op, p, q, x, meanings, registers, state)
 }
 
 // After the last statement.
-fn at_end(s: &[u8], state: State) -> Verdict
+#[tactic(auto, unfolding(crate::specs::Verdicts::at_end_of))]
+fn at_end(s: &[u8], state: State) -> Result<(), Unfaithful>
     ensures { result ≡ at_end_of s.now state }
 {
-    let k = state.step;
-    if k < table_layout::step_count(s) {
-        return Verdict::Unfinished(k);
+    if state.step < table_layout::step_count(s) {
+        return Err(Unfaithful::Unfinished(state.step));
     }
-    Verdict::Accepted
+    Ok(())
 }
 
-// The walk over the statements. The array begins with what the first registers mean.
-fn walk(table: &[u8], list: &[u8], meanings: &mut [u8; 256], given: u8) -> Verdict
-    ensures { WalksOn table.now list.now meanings.old given result }
+// The verdict on a list's statements.
+pub fn judge_statements(table: &[u8], list: &[u8]) -> Result<(), Unfaithful>
+    ensures { StatementsJudged table.now list.now result }
 {
-    let n = list::statement_count(list);
-    let base = list::statements_at(list);
-    let mut registers = base::wide(given);
+    let mut meanings = [0u8; 256];
+    let given = base::wide(free_symbols::list_free(table, &mut meanings));
+    let mut registers = Registers { meanings, given };
     let mut state = State {
         step: 0,
         half: false,
     };
-    let mut i = 0;
-    while i < n {
-        let t = take_turn(table, list, base, i, meanings, registers, state);
-        let Turn::On(next) = t else {
-            return Verdict::NotDue(i);
-        };
-        state = next;
-        registers += base::wide(list::gives_at(list, base, i));
-        i += 1;
+    let base = list::statements_at(list);
+    for i in 0..list::statement_count(list) {
+        let turn = take_turn(table, list, base, i, &mut registers, state);
+        state = turn.ok_or(Unfaithful::NotDue(i))?;
     }
     at_end(table, state)
-}
-
-// The verdict on a list's statements.
-pub fn judge_statements(table: &[u8], list: &[u8]) -> Verdict
-    ensures { StatementsJudged table.now list.now result }
-{
-    let mut meanings = [0u8; 256];
-    let given = free_symbols::list_free(table, &mut meanings);
-    walk(table, list, &mut meanings, given)
 }

@@ -1,10 +1,9 @@
 -- A refusal as a line of text. Assumes nothing: these are definitions.
-use Rattle.std.specs.Prelude.{◌≡◌, List, [], ◌∷◌, ◌++◌, ℕ, ◌+◌, ◌≤◌, length, take}
+use Rattle.std.specs.Prelude.{◌≡◌, List, [], ◌∷◌, ◌++◌, ℕ, ◌≤◌, length, take, Ok, Err}
 use Rattle.io.specs.Digits.{last_digits, IsDigitCount}
 use Rattle.answers.specs.declared.Refusal.{Refusal}
-use Rattle.answers.specs.declared.Check.{Check}
-use Rattle.answers.specs.declared.Check.TheVariants.{Pass, Refuse}
-use Rattle.buffers.specs.Over.{over}
+use Rattle.buffers.specs.Over.{over, Appended}
+use Rattle.answers.specs.Ladder.{Check}
 
 -- the text t is n in decimal, with as few digits as it takes
 pub record Decimal (n : ℕ) (t : List ℕ) : Type 0 where
@@ -12,17 +11,11 @@ pub record Decimal (n : ℕ) (t : List ℕ) : Type 0 where
   pub fewest : IsDigitCount 10 1 n places
   pub is : t ≡ last_digits 10 places n
 
--- text was appended to what stands at the start of a buffer
-pub record Appended (t : List ℕ) (at : ℕ) (z o : List ℕ) (r : ℕ) : Type 0 where
-  pub ends : r ≡ at + length t
-  pub kept : length o ≡ length z
-  pub wrote : (w y : List ℕ) → at ≡ length w → z ≡ over w y → o ≡ over (w ++ t) y
-
--- a number was
+-- a space and a number were written at a place of a buffer
 pub record NumberPut (n at : ℕ) (z o : List ℕ) (r : ℕ) : Type 0 where
   pub text : List ℕ
   pub decimal : Decimal n text
-  pub appended : Appended text at z o r
+  pub appended : Appended (32 ∷ text) at z o r
   pub short : length text ≤ 20
 
 -- `refused` and a space, in ASCII
@@ -55,8 +48,8 @@ accepted_line = 97 ∷ 99 ∷ 99 ∷ 101 ∷ 112 ∷ 116 ∷ 101 ∷ 100 ∷ 10 
 
 -- the line of a check
 abbrev pub CheckLine : Check → List ℕ → Type 0
-CheckLine Pass line = line ≡ accepted_line
-CheckLine (Refuse x) line = LineOf x line
+CheckLine (Ok tt) line = line ≡ accepted_line
+CheckLine (Err x) line = LineOf x line
 
 -- it was written at the start of z, if z is long enough, and r is its length
 pub record CheckPut (a : Check) (z o : List ℕ) (r : ℕ) : Type 0 where

@@ -4,14 +4,14 @@ use mathlib.Core.Logic.{◌↔◌}
 use mathlib.Core.List.{List}
 use Prim.Native.Nat.{ℕ}
 use Rattle.answers.specs.Ladder.{least}
-use Rattle.answers.specs.declared.Check.TheVariants.{Pass}
 use Rattle.list.specs.Faults.{list_rungs}
 use Rattle.list.specs.Right.{ListRight}
 use Rattle.list.proofs.Framed.{Listed, list_passes}
 use Rattle.list.proofs.EntryTests.{statement_ok_means}
 use Rattle.list.proofs.SymbolTypes.{type_ok_exact}
+use Rattle.std.proofs.Common.{Ok}
 
-pub list_right : (s : List ℕ) (free : ℕ) → (least (list_rungs s free) ≡ Pass) ↔ ListRight s free
+pub list_right : (s : List ℕ) (free : ℕ) → (least (list_rungs s free) ≡ Ok tt) ↔ ListRight s free
 list_right s free = (λ e. to ((list_passes s free).0 e), λ r. (list_passes s free).1 (from r))
   where
     to : Listed s free → ListRight s free

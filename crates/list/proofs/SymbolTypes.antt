@@ -12,11 +12,9 @@ use borrow.Author.Tests.{ltb-false, le-ltb, le-leb}
 use Rattle.base.specs.Search.{Search, clean, wrong, first}
 use Rattle.base.specs.Pick.{both}
 use Rattle.base.proofs.Searched.{Found, all_are_right, first_bad, found}
-use Rattle.answers.specs.Ladder.{least}
+use Rattle.answers.specs.Ladder.{least, Check}
 use Rattle.answers.specs.Least.{Fault, Least, none, lowest}
 use Rattle.answers.specs.declared.Refusal.{Refusal}
-use Rattle.answers.specs.declared.Check.{Check}
-use Rattle.answers.specs.declared.Check.TheVariants.{Pass, Refuse}
 use Rattle.answers.proofs.Ladder.{after_pass}
 use Rattle.opening.specs.Opening.{version}
 use Rattle.types.specs.Version1.{codes1, T, bytes}
@@ -31,6 +29,7 @@ use Rattle.list.proofs.Framed.{frame_passes, type_inside}
 use Rattle.list.proofs.Parts.{has_type_lem}
 use Rattle.list.proofs.TypesExact.{types_exact, type_once}
 use Rattle.list.proofs.LeastFault.{frame_least_fault}
+use Rattle.std.proofs.Common.{Ok, Err}
 
 -- after 1 to 4 a type is in order exactly if its bytes are a type's
 pub type_ok_exact : (s : List ℕ) (i : ℕ) → Framed s → i < symbols s → (type_ok s i ≡ true) ↔ ((A : T) × (body_at s (type_at s i) ≡ bytes A))
@@ -46,14 +45,14 @@ some_bytes_there : (A : T) → [] ≡ bytes A → ⊥
 some_bytes_there A e = not_empty codes1 A [] (e ∙ sym (append-nil (bytes A)))
 
 -- the answer Pass says that there is no fault
-fault_none : (s : List ℕ) (y : Refusal) → Fault y (frame_rungs s) → least (frame_rungs s) ≡ Pass → ⊥
+fault_none : (s : List ℕ) (y : Refusal) → Fault y (frame_rungs s) → least (frame_rungs s) ≡ Ok tt → ⊥
 fault_none s y f p = go (rw p at (frame_least_fault s))
   where
-    go : Least (frame_rungs s) Pass → ⊥
+    go : Least (frame_rungs s) (Ok tt) → ⊥
     go (none n) = n y f
 
 -- and of the types, that none is malformed
-none_malformed : (s : List ℕ) → MalformedType s → (least (frame_rungs s) ≡ Pass) × (least (type_rung s ∷ []) ≡ Pass) → ⊥
+none_malformed : (s : List ℕ) → MalformedType s → (least (frame_rungs s) ≡ Ok tt) × (least (type_rung s ∷ []) ≡ Ok tt) → ⊥
 none_malformed s (i, h, n) (p, q) = let (A, e) = (type_ok_exact s i ((frame_passes s).0 p) h).0 (first_passed (type_rung s) [] q i h) in n A e
 
 -- a list that has the symbol's type, or hands out nothing
@@ -67,13 +66,13 @@ module _ (s : List ℕ) (x : ℕ) where
   bytes_some e = rw e
 
   -- the tests of 1 to 4 and of the types do not pass
-  not_passed : (least (type_rungs s) ≡ Pass → ⊥) → type_bytes s x ≡ []
+  not_passed : (least (type_rungs s) ≡ Ok tt → ⊥) → type_bytes s x ≡ []
   unfolding has_type
   not_passed n = go (least (type_rungs s)) refl
     where
       go : (a : Check) → least (type_rungs s) ≡ a → type_bytes s x ≡ []
-      go Pass q = absurd (n q)
-      go (Refuse y) q = bytes_none (rw q)
+      go (Ok tt) q = absurd (n q)
+      go (Err y) q = bytes_none (rw q)
 
   past_symbols : symbols s ≤ x → type_bytes s x ≡ []
   unfolding has_type
@@ -83,7 +82,7 @@ module _ (s : List ℕ) (x : ℕ) where
       both_false true b e = e
       both_false false b e = refl
 
-  lacks : has_type s x ≡ false → least (type_rungs s) ≡ Pass → symbols s ≤ x
+  lacks : has_type s x ≡ false → least (type_rungs s) ≡ Ok tt → symbols s ≤ x
   unfolding has_type
   lacks e q = ltb-false x (symbols s) (rw q at e)
 
@@ -106,14 +105,14 @@ module _ (s : List ℕ) (x : ℕ) where
   pub type_of_empty : (type_bytes s x ≡ []) ↔ (FrameFault s ⊎ (MalformedType s ⊎ (symbols s ≤ x)))
   type_of_empty = (λ e. to (least (frame_rungs s)) refl (frame_least_fault s) (not_handed e), λ w. from w)
     where
-      types : Framed s → least (frame_rungs s) ≡ Pass → has_type s x ≡ false → (c : Search) → Found (type_ok s) 0 (symbols s) c → FrameFault s ⊎ (MalformedType s ⊎ (symbols s ≤ x))
+      types : Framed s → least (frame_rungs s) ≡ Ok tt → has_type s x ≡ false → (c : Search) → Found (type_ok s) 0 (symbols s) c → FrameFault s ⊎ (MalformedType s ⊎ (symbols s ≤ x))
       types f p e clean (all_are_right g) =
           inr (inr (lacks e (after_pass (frame_rungs s) (type_rung s ∷ []) p ∙ rung_passes (type_rung s) (λ k h. g k (omega arith) h))))
       types f p e (wrong i) (first_bad a h b g) = inr (inl (i, h, λ A q. clash ((type_ok_exact s i f h).1 (A, q)) b))
 
       to : (a : Check) → least (frame_rungs s) ≡ a → Least (frame_rungs s) a → has_type s x ≡ false → FrameFault s ⊎ (MalformedType s ⊎ (symbols s ≤ x))
-      to Pass q l e = types ((frame_passes s).0 q) q e (first (type_ok s) 0 (symbols s)) (found (type_ok s) 0 (symbols s) (omega arith))
-      to (Refuse y) q (lowest f m) e = inl (y, f)
+      to (Ok tt) q l e = types ((frame_passes s).0 q) q e (first (type_ok s) 0 (symbols s)) (found (type_ok s) 0 (symbols s) (omega arith))
+      to (Err y) q (lowest f m) e = inl (y, f)
 
       from : FrameFault s ⊎ (MalformedType s ⊎ (symbols s ≤ x)) → type_bytes s x ≡ []
       from (inl (y, f)) = not_passed λ p. fault_none s y f (layers_passed (frame_rungs s) (type_rung s ∷ []) p).0

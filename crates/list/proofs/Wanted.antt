@@ -6,7 +6,7 @@ use Prim.Native.Nat.{ℕ, zero, suc, ◌+◌, ◌*◌, ◌-◌, ◌≤◌, ◌<�
 use native.Mathlib.Numerals.{add-one}
 use native.Mathlib.Omega.{arith}
 use lib.Dec.{eqb}
-use lib.ListN.{length, drop, drop_of_length-le}
+use lib.ListN.{length, drop, get_or, drop_of_length-le}
 use lib.Seq.{drop-cons}
 use Rattle.base.specs.Bytes.{byte}
 use Rattle.base.proofs.Bounds.{byte_past}
@@ -34,8 +34,7 @@ module _ (v n : ℕ) (t : List ℕ) (k : ℕ) where
   wants_end h = rw (drop_of_length-le t h)
 
   module _ (h : k < length t) where
-    from : drop k t ≡ byte t k ∷ drop (k + 1) t
-    unfolding byte
+    from : drop k t ≡ get_or t k 0 ∷ drop (k + 1) t
     from = rw add-one (drop-cons t k 0 h)
 
     -- a byte that is not wanted
@@ -44,19 +43,22 @@ module _ (v n : ℕ) (t : List ℕ) (k : ℕ) where
     wants_none e = rw (e, from)
 
     -- a byte that is no code
-    pub wants_unknown : type_known v (byte t k) ≡ false → wants v n (drop k t) ≡ false
+    pub wants_unknown : type_known v (get_or t k 0) ≡ false → wants v n (drop k t) ≡ false
     unfolding wants
     wants_unknown e = rw from (go n)
       where
-        go : (n : ℕ) → wants v n (byte t k ∷ drop (k + 1) t) ≡ false
+        go : (n : ℕ) → wants v n (get_or t k 0 ∷ drop (k + 1) t) ≡ false
         go zero = refl
         go (suc n) = rw e
 
     -- a code: one less is wanted, and those that follow it
-    pub wants_more : (n ≡ 0 → ⊥) → type_known v (byte t k) ≡ true → wants v (n - 1 + type_parts (byte t k)) (drop (k + 1) t) ≡ wants v n (drop k t)
+    pub wants_more : (n ≡ 0 → ⊥) → type_known v (get_or t k 0) ≡ true → wants v (n - 1 + type_parts (get_or t k 0)) (drop (k + 1) t) ≡ wants v n (drop k t)
     unfolding wants
     wants_more z e = rw from (go n z)
       where
-        go : (n : ℕ) → (n ≡ 0 → ⊥) → wants v (n - 1 + type_parts (byte t k)) (drop (k + 1) t) ≡ wants v n (byte t k ∷ drop (k + 1) t)
+        go : (n : ℕ) → (n ≡ 0 → ⊥) → wants v (n - 1 + type_parts (get_or t k 0)) (drop (k + 1) t) ≡ wants v n (get_or t k 0 ∷ drop (k + 1) t)
         go zero z = absurd (z refl)
         go (suc n) z = let q : suc n - 1 ≡ n = omega arith in rw (q, e)
+
+-- by which a walk along the bytes of a type is checked
+pub ruleset wanted_steps = (parts_few, wants_end, wants_none, wants_unknown, wants_more)

@@ -11,12 +11,12 @@ use lib.Seq.{take-add, take_all, drop-cons}
 use Rattle.base.specs.Bytes.{byte}
 use Rattle.codes.specs.Rows.{width, field_bytes}
 use Rattle.answers.specs.Ladder.{least}
-use Rattle.answers.specs.declared.Check.TheVariants.{Pass}
 use Rattle.entries.specs.Fields.{number, place_of, code, field}
 use Rattle.list.specs.Layout.{symbols, statements, body_at, past_type, type_at, statements_at}
 use Rattle.list.specs.Faults.{frame_rungs}
 use Rattle.list.specs.Tiles.{tiled, type_entry, statement_entry, written}
 use Rattle.list.proofs.Framed.{frame_passes, type_inside}
+use Rattle.std.proofs.Common.{Ok}
 
 -- the bytes from a place on, one by one
 next_byte : (s : List ℕ) (p : ℕ) → p < length s → drop p s ≡ byte s p ∷ drop (p + 1) s
@@ -63,7 +63,7 @@ statements_tile s (suc n) h =
     rw (q, take-add (b + 4 * n) 4 s, statements_tile s n (omega arith), statement_bytes_lem s n (omega arith)) (append_assoc (take b s) (tiled (statement_entry s) n) (statement_entry s n))
 
 -- a list that passes 1 to 4 is its header, its types and its statements
-pub list_written : (s : List ℕ) → least (frame_rungs s) ≡ Pass → s ≡ written s
+pub list_written : (s : List ℕ) → least (frame_rungs s) ≡ Ok tt → s ≡ written s
 unfolding written
 list_written s e =
     let f = (frame_passes s).0 e in

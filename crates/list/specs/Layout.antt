@@ -1,5 +1,6 @@
 -- Where the types and the statements of a statement list stand, and when each is in order. Assumes nothing: these are definitions.
 use Rattle.std.specs.Prelude.{Bool, false, List, [], ◌∷◌, ℕ, zero, suc, ◌+◌, ◌*◌, leb, eqb, length, take, drop}
+use Rattle.std.specs.declared.ops.Range.{Range}
 use Rattle.base.specs.Bytes.{byte, word}
 use Rattle.base.specs.Pick.{both}
 use Rattle.codes.specs.Rows.{cell, limits_of}
@@ -20,6 +21,10 @@ body_at s p = take (byte s p) (drop (p + 1) s)
 
 abbrev pub past_type : List ℕ → ℕ → ℕ
 past_type s p = p + 1 + byte s p
+
+-- from where to where those bytes are
+abbrev pub body_range : List ℕ → ℕ → Range ℕ
+body_range s p = record { start = p + 1; end = past_type s p }
 
 -- where type i stands: the first after the header, each other one after the one before it
 unfoldable pub type_at : List ℕ → ℕ → ℕ

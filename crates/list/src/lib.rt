@@ -5,11 +5,13 @@
 ghost use Rattle.std.specs.Prelude.{◌≡◌, [], ◌∷◌, ◌+◌, ◌≤◌, ◌<◌};
 ghost use Rattle.answers.specs.Ladder.{least};
 ghost use Rattle.entries.specs.Fields.{field};
-ghost use Rattle.list.specs.Layout.{symbols, statements, past_type, type_at, statements_at, counts_ok, length_ok, wants, type_ok_at, gives, statement_ok_at};
+ghost use Rattle.list.specs.Layout.{symbols, statements, past_type, body_range, type_at, statements_at, counts_ok, length_ok, wants, type_ok_at, gives, statement_ok_at};
 ghost use Rattle.list.specs.Faults.{frame_rungs, type_rung, type_rungs, statement_rung, list_rungs};
 ghost use Rattle.list.specs.TypeOf.{type_bytes, part_of};
 
-use answers::Check;
+use answers::{Check, File};
+use codes::Kind;
+use std::ops::Range;
 
 // The counts: symbols and statements.
 pub fn symbol_count(s: &[u8]) -> u8
@@ -18,29 +20,38 @@ pub fn symbol_count(s: &[u8]) -> u8
     base::byte_at(s, 5)
 }
 
+#[tactic(auto, unfolding(base::specs::Bytes::word, base::specs::Bytes::byte))]
 pub fn statement_count(s: &[u8]) -> u16
     ensures { result ≡ statements s.now }
 {
-    base::byte_at(s, 6) as u16 * 256 + base::byte_at(s, 7) as u16
+    base::word_at(s, 6) as u16
 }
 
 // The place after the type at a place. The types of a list stand in its first 65,536 bytes.
 fn past_type(s: &[u8], at: u32) -> u32
     requires { at < 65536 }
-    ensures { (result ≡ past_type s.now at) × (result ≤ at + 256) }
+    ensures place { result ≡ past_type s.now at }
+    ensures near { result ≤ at + 256 }
 {
     at + 1 + base::byte_at(s, at as usize) as u32
 }
 
+// Where the bytes of the type at a place are: after its length byte.
+pub fn body_range(s: &[u8], at: u32) -> Range<usize>
+    ensures { result ≡ body_range s.now at }
+{
+    let start = at as usize + 1;
+    start..start + base::byte_at(s, at as usize) as usize
+}
+
 // Where type i stands.
+#[tactic(auto, using(crate::proofs::Walks::type_at_steps))]
 pub fn type_at(s: &[u8], i: u8) -> u32
     ensures { result ≡ type_at s.now i }
 {
     let mut at = 8;
-    let mut k = 0;
-    while k < i {
+    for _ in 0..i {
         at = past_type(s, at);
-        k += 1;
     }
     at
 }
@@ -53,15 +64,14 @@ pub fn statements_at(s: &[u8]) -> u32
 }
 
 // Numbers 1 to 4.
+#[tactic(auto, unfolding(crate::specs::Layout::counts_ok))]
 fn counts_ok(s: &[u8]) -> bool
     ensures { result ≡ counts_ok s.now }
 {
-    if symbol_count(s) <= 96 {
-        return statement_count(s) <= 512;
-    }
-    false
+    symbol_count(s) <= 96 && statement_count(s) <= 512
 }
 
+#[tactic(auto, unfolding(crate::specs::Layout::length_ok))]
 fn length_ok(s: &[u8]) -> bool
     ensures { result ≡ length_ok s.now }
 {
@@ -71,152 +81,131 @@ fn length_ok(s: &[u8]) -> bool
 fn check_frame(s: &[u8]) -> Check
     ensures { result ≡ least (frame_rungs s.now) }
 {
-    opening::check_frame(s, codes::LIST, counts_ok(s), length_ok(s))
+    opening::check_frame(s, File::List, counts_ok(s), length_ok(s))
 }
 
 // The bytes are exactly one type. One is wanted at first; each code takes one off, and adds those that follow it.
+#[tactic(auto, using(crate::proofs::Wanted::wanted_steps))]
 fn is_type(t: &[u8], version: usize) -> bool
     ensures { result ≡ wants version 1 t.now }
 {
     let mut wanted: usize = 1;
-    let mut k = 0;
-    while k < t.len() {
-        if wanted == 0 {
-            return false;
-        }
-        let code = base::byte_at(t, k);
-        if !codes::type_known(version, code) {
+    for &code in t {
+        if wanted == 0 || !codes::type_known(version, code) {
             return false;
         }
         wanted = wanted - 1 + codes::type_parts(code);
-        k += 1;
     }
     wanted == 0
 }
 
 // The type at a place is in order.
+#[tactic(auto, unfolding(crate::specs::Layout::type_ok_at))]
 fn type_ok(s: &[u8], at: u32) -> bool
     ensures { result ≡ type_ok_at s.now at }
 {
-    let start = at as usize + 1;
-    let end = start + base::wide(base::byte_at(s, at as usize));
-    if end <= s.len() {
-        return is_type(&s[start..end], base::word_at(s, 3));
-    }
-    false
+    let version = base::word_at(s, 3);
+    s.get(body_range(s, at))
+        .is_some_and(|t| is_type(t, version))
 }
 
 // Number 5 of the types.
+#[tactic(auto, using(crate::proofs::Walks::walk_steps), unfolding(crate::specs::Layout::type_ok))]
 fn walk_types(s: &[u8]) -> Check
     ensures { result ≡ least (type_rung s.now ∷ []) }
 {
-    let n = symbol_count(s);
     let mut at = 8;
-    let mut i = 0;
-    while i < n {
+    for _ in 0..symbol_count(s) {
         if !type_ok(s, at) {
-            return answers::refuse(5, codes::LIST, at as usize);
+            return answers::refuse(5, File::List, at as usize);
         }
         at = past_type(s, at);
-        i += 1;
     }
-    Check::Pass
+    Ok(())
 }
 
 // Numbers 1 to 4, and 5 of the types.
 fn check_types(s: &[u8]) -> Check
     ensures { result ≡ least (type_rungs s.now) }
 {
-    let a = check_frame(s);
-    let Check::Pass = a else {
-        return a;
-    };
+    check_frame(s)?;
     walk_types(s)
 }
 
 // Field j of statement i, of those from a base offset on: p, q or s.
+#[tactic(auto, using(crate::proofs::Operands::statement_field_byte))]
 pub fn operand_at(s: &[u8], base: u32, i: u16, j: u8) -> u8
     ensures { result ≡ field s.now 2 base i j }
 {
-    base::byte_at(s, base as usize + i as usize * 4 + 1 + base::wide(j))
+    base::byte_at(s, base as usize + i as usize * 4 + 1 + j as usize)
 }
 
 // Whether statement i gives a register: 1 or 0.
+#[tactic(auto, unfolding(crate::specs::Layout::gives))]
 pub fn gives_at(s: &[u8], base: u32, i: u16) -> u8
     ensures { result ≡ gives s.now base i }
 {
     codes::cell_at(
-        codes::STATEMENT,
-        entries::code_at(s, codes::STATEMENT, base, i),
+        Kind::Statement,
+        entries::code_at(s, Kind::Statement, base, i),
         4,
     )
 }
 
 // Statement i is in order where so many registers are given.
+#[tactic(auto, unfolding(crate::specs::Layout::statement_ok_at))]
 fn statement_ok(s: &[u8], base: u32, i: u16, registers: usize) -> bool
     ensures { result ≡ statement_ok_at s.now base i registers }
 {
-    let limits = codes::limits(0, base::wide(symbol_count(s)), 0, 0, registers);
-    entries::entry_ok(s, codes::STATEMENT, base::word_at(s, 3), base, i, &limits)
+    let limits = codes::limits(0, symbol_count(s) as usize, 0, 0, registers);
+    entries::entry_ok(s, Kind::Statement, base::word_at(s, 3), base, i, &limits)
 }
 
 // Number 5 of the statements. The registers are counted along.
+#[tactic(auto, using(crate::proofs::Walks::walk_steps), unfolding(crate::specs::Layout::statement_ok))]
 fn walk_statements(s: &[u8], free: u16) -> Check
     ensures { result ≡ least (statement_rung s.now free ∷ []) }
 {
-    let n = statement_count(s);
     let base = statements_at(s);
     let mut registers = free as usize;
-    let mut i = 0;
-    while i < n {
+    for i in 0..statement_count(s) {
         if !statement_ok(s, base, i, registers) {
-            return answers::refuse(5, codes::LIST, entries::place_of(codes::STATEMENT, base, i));
+            return answers::refuse(5, File::List, entries::place_of(Kind::Statement, base, i));
         }
-        registers += base::wide(gives_at(s, base, i));
-        i += 1;
+        registers += gives_at(s, base, i) as usize;
     }
-    Check::Pass
+    Ok(())
 }
 
 // The list by itself, numbers 1 to 5, where the table has so many free symbols.
 pub fn check_list(s: &[u8], free: u16) -> Check
     ensures { result ≡ least (list_rungs s.now free) }
 {
-    let a = check_types(s);
-    let Check::Pass = a else {
-        return a;
-    };
+    check_types(s)?;
     walk_statements(s, free)
 }
 
-// A part of a list: where it starts and how many bytes it has; or none.
-#[derive(Drop)]
-pub enum Part {
-    At(usize, usize),
-    Nothing,
-}
-
-// The part that holds a symbol's type.
-pub fn type_part(list: &[u8], symbol: usize) -> Part
+// The part of a list that holds a symbol's type.
+#[tactic(auto, using(crate::proofs::Parts::part_steps))]
+pub fn type_part(list: &[u8], symbol: usize) -> Option<Range<usize>>
     ensures { result ≡ part_of list.now symbol }
 {
-    let Check::Pass = check_types(list) else {
-        return Part::Nothing;
+    let Ok(()) = check_types(list) else {
+        return None;
     };
-    if symbol < base::wide(symbol_count(list)) {
-        let at = type_at(list, symbol as u8) as usize;
-        return Part::At(at + 1, base::wide(base::byte_at(list, at)));
+    if symbol < symbol_count(list) as usize {
+        return Some(body_range(list, type_at(list, symbol as u8)));
     }
-    Part::Nothing
+    None
 }
 
 // The bytes of a symbol's type, as the part of the list that holds them.
+#[tactic(auto, using(crate::proofs::Parts::part_steps))]
 pub fn type_of<'a>(list: &'a [u8], symbol: usize) -> &'a [u8]
     ensures { result.now ≡ type_bytes list.now symbol }
 {
-    let Part::At(start, count) = type_part(list, symbol) else {
-        return &list[0..0];
+    let Some(part) = type_part(list, symbol) else {
+        return &[];
     };
-    let end = start + count;
-    &list[start..end]
+    &list[part]
 }

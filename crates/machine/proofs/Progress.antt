@@ -5,6 +5,8 @@ use Prim.Native.Nat.{ℕ, suc, ◌+◌, ◌-◌, ◌*◌, ◌<◌, ◌≤◌}
 use native.Mathlib.Omega.{arith}
 use native.Mathlib.Numerals.{add-one}
 use lib.ListN.{length, length-append}
+use Rattle.std.specs.Bool.{⊤}
+use Rattle.std.proofs.Common.{Result as Answer, Ok, Err}
 use Rattle.entries.specs.Tiling.{listed}
 use Rattle.entries.proofs.Tiling.{listed_length}
 use Rattle.list.specs.Layout.{statements, statements_at}
@@ -18,13 +20,14 @@ use Rattle.running.specs.Lists.{Register, execute, run, table}
 use Rattle.running.specs.Demand3.{builds, messages, types_of}
 use Rattle.decoded_list.specs.Statements.{statement_at, statements_of}
 use Rattle.run_parts.specs.Types.{TypesAre}
-use Rattle.effects.specs.Effects.{Keeps, Room, Comes, comes_on, comes_end, Does}
+use Rattle.effects.specs.Effects.{Keeps, Room, Comes, comes_on, comes_end, ending_number, Same, Does}
+use Rattle.effects.specs.declared.Run.{Run}
 use Rattle.effects.specs.declared.State.{State}
-use Rattle.effects.specs.declared.Step.{Step}
-use Rattle.effects.specs.declared.Step.TheVariants.{Next, Stop}
+use Rattle.effects.specs.declared.Ending.TheVariants.{Finished}
+use Rattle.effects.specs.declared.Ending.{Ending as CodeEnding}
 use Rattle.execution.specs.Execution.{executing, statement_in, executing_at, builds_at, messages_at}
 use Rattle.machine.specs.Statements.{Told}
-use Rattle.machine.specs.Running.{ended_as, stopped_as, Ready, run_from, RunFrom}
+use Rattle.machine.specs.Running.{ended_as, Ready, run_from, RunFrom}
 use Rattle.machine.specs.declared.Ran.{Ran}
 use Rattle.machine.proofs.Growth.{builds_first, messages_first, builds_few, messages_few, Small, small_on, store_longer, small_statement}
 
@@ -139,8 +142,8 @@ module _ {l tr z y : List ℕ} {As : List T} {R : Outcome} {k : ℕ} {w o g : Li
   done = execute signature1 (table signature1) (typed (types_of signature1 As)) p.es p.rs p.su (statement_at l k)
 
   -- what it comes to
-  comes : {w' o' g' : List ℕ} {r : Step} → Does (builds_at l base k) (messages_at l base k) (executing_at l base k) l tr w w' o o' g g' s r
-      → Comes tr z y done.0 p.rs p.ms w' o' g' done.1 r
+  comes : {w' o' g' : List ℕ} {s' : State} {r : Answer ⊤ CodeEnding} → Does (builds_at l base k) (messages_at l base k) (executing_at l base k) l tr w w' o o' g g' s s' r
+      → Comes tr z y done.0 p.rs p.ms w' o' g' s' done.1 r
   unfolding executing
   comes d = rw same_statement_lem at (d.does As t z y p.es p.rs p.su p.ms p.keeps room)
 
@@ -154,12 +157,12 @@ module _ {l tr z y : List ℕ} {As : List T} {R : Outcome} {k : ℕ} {w o g : Li
   runs = rw (rest_first l k h) at p.goes_on
 
   -- it goes on
-  pub stepped : {w' o' g' : List ℕ} {c : State} → Does (builds_at l base k) (messages_at l base k) (executing_at l base k) l tr w w' o o' g g' s (Next c) → Progress l tr z y As R (k + 1) w' o' g' c
+  pub stepped : {w' o' g' : List ℕ} {c : State} → Does (builds_at l base k) (messages_at l base k) (executing_at l base k) l tr w w' o o' g g' s c (Ok tt) → Progress l tr z y As R (k + 1) w' o' g' c
   unfolding and_then
   stepped {w'} {o'} {g'} {c} d = go done.1 runs (comes d) small
     where
       go : (u : Out ℕ (Register ℕ)) → R ≡ later k p.ms (and_then done.0 u (λ new su. run_rest l As (k + 1) done.0 (p.rs ++ new) su))
-          → Comes tr z y done.0 p.rs p.ms w' o' g' u (Next c) → Small (messages signature1 (statement_at l k ∷ [])) u → Progress l tr z y As R (k + 1) w' o' g' c
+          → Comes tr z y done.0 p.rs p.ms w' o' g' c u (Ok tt) → Small (messages signature1 (statement_at l k ∷ [])) u → Progress l tr z y As R (k + 1) w' o' g' c
       go (goes ns bs su) q (comes_on i) (small_on a b) =
           let f : builds signature1 (rest_of l k) ≡ builds signature1 (statement_at l k ∷ []) + builds signature1 (rest_of l (k + 1)) = rw (rest_first l k h) (builds_first (statement_at l k) (rest_of l (k + 1))) in
           let m : messages signature1 (rest_of l k) ≡ messages signature1 (statement_at l k ∷ []) + messages signature1 (rest_of l (k + 1)) = rw (rest_first l k h) (messages_first (statement_at l k) (rest_of l (k + 1))) in
@@ -185,19 +188,19 @@ module _ {l tr z y : List ℕ} {As : List T} {R : Outcome} {k : ℕ} {w o g : Li
       go (stops _ _ _) q x6 _ = elim x6 [ ]
 
   -- it ends the run
-  pub ended_by : {w' o' g' : List ℕ} {n : ℕ} {c : State} → Does (builds_at l base k) (messages_at l base k) (executing_at l base k) l tr w w' o o' g g' s (Stop n c) → Told tr z w' y o' R (ended_as n k c)
+  pub ended_by : {w' o' g' : List ℕ} {c : State} {a : CodeEnding} → Does (builds_at l base k) (messages_at l base k) (executing_at l base k) l tr w w' o o' g g' s c (Err a) → Told tr z w' y o' R (ended_as (ending_number a) k c)
   unfolding and_then
-  ended_by {w'} {o'} {g'} {n} {c} d = go done.1 runs (comes d)
+  ended_by {w'} {o'} {g'} {c} {a} d = go done.1 runs (comes d)
     where
       go : (u : Out ℕ (Register ℕ)) → R ≡ later k p.ms (and_then done.0 u (λ new su. run_rest l As (k + 1) done.0 (p.rs ++ new) su))
-          → Comes tr z y done.0 p.rs p.ms w' o' g' u (Stop n c) → Told tr z w' y o' R (ended_as n k c)
+          → Comes tr z y done.0 p.rs p.ms w' o' g' c u (Err a) → Told tr z w' y o' R (ended_as (ending_number a) k c)
       go (stops f ns su) q (comes_end i j) = told f (k + 0) q i (omega arith) j
       go (goes _ _ _) q x5 = elim x5 [ ]
 
 -- ── The end ──
 
-pub all_done : {l tr z y : List ℕ} {As : List T} {R : Outcome} {k n : ℕ} {w o g : List ℕ} {s : State} → Progress l tr z y As R k w o g s → n ≡ statements l → k ≤ n → n ≤ k → Told tr z w y o R (ended_as 0 n s)
-unfolding run_rest run number_of
+pub all_done : {l tr z y : List ℕ} {As : List T} {R : Outcome} {k n : ℕ} {w o g : List ℕ} {s : State} → Progress l tr z y As R k w o g s → n ≡ statements l → k ≤ n → n ≤ k → Told tr z w y o R (ended_as (ending_number Finished) n s)
+unfolding run_rest run number_of ending_number
 all_done {l} {k = k} p e h i =
     let q = rw (rest_none l k (omega arith)) at p.goes_on in
     told finished (k + 0) (q ∙ quiet) refl (omega arith) p.keeps
@@ -216,15 +219,19 @@ pub run_begins : (l tr w o g : List ℕ) (s : State) → Running l tr w o g s 0 
 run_begins l tr w o g s = record { progress = λ As z y es rs su r. begun r }
 
 module _ (l tr w o g : List ℕ) (s : State) (k : ℕ) (w₁ o₁ g₁ : List ℕ) (s₁ : State) (p : Running l tr w o g s k w₁ o₁ g₁ s₁) where
-  module _ (n : ℕ) (m : n ≡ statements l) (h : k < n) (base : ℕ) (e : base ≡ statements_at l) (w₂ o₂ g₂ : List ℕ) (r : Step)
-      (d : Does (builds_at l base k) (messages_at l base k) (executing_at l base k) l tr w₁ w₂ o₁ o₂ g₁ g₂ s₁ r) where
-    pub run_goes_on : (c : State) → r ≡ Next c → Running l tr w o g s (k + 1) w₂ o₂ g₂ c
-    run_goes_on c q = record { progress = λ As z y es rs su i. stepped i.types (p.progress As z y es rs su i) (omega arith) base e (rw q at d) }
+  module _ (n : ℕ) (m : n ≡ statements l) (h : k < n) (base : ℕ) (e : base ≡ statements_at l) (w₂ o₂ g₂ : List ℕ) (c : State) (r : Answer ⊤ CodeEnding)
+      (d : Does (builds_at l base k) (messages_at l base k) (executing_at l base k) l tr w₁ w₂ o₁ o₂ g₁ g₂ s₁ c r) where
+    pub run_goes_on : r ≡ Ok tt → Running l tr w o g s (k + 1) w₂ o₂ g₂ c
+    run_goes_on q = record { progress = λ As z y es rs su i. stepped i.types (p.progress As z y es rs su i) (omega arith) base e (rw q at d) }
 
-    pub run_stops : (a : ℕ) (c : State) → r ≡ Stop a c → (x : Ran) → x ≡ stopped_as r k → RunFrom l tr w w₂ o o₂ g s x
-    run_stops a c q x f = record {
-      ran = λ As z y es rs su i. rw (f, q) (ended_by i.types (p.progress As z y es rs su i) (omega arith) base e (rw q at d));
+    pub run_stops : (a : CodeEnding) → r ≡ Err a → (x : Ran) → x ≡ ended_as (ending_number a) k c → RunFrom l tr w w₂ o o₂ g s x
+    run_stops a q x f = record {
+      ran = λ As z y es rs su i. rw f (ended_by i.types (p.progress As z y es rs su i) (omega arith) base e (rw q at d));
     }
 
-  pub run_ends : (n : ℕ) → n ≡ statements l → k ≤ n → n ≤ k → (x : Ran) → x ≡ ended_as 0 n s₁ → RunFrom l tr w w₁ o o₁ g s x
+  pub run_ends : (n : ℕ) → n ≡ statements l → k ≤ n → n ≤ k → (x : Ran) → x ≡ ended_as (ending_number Finished) n s₁ → RunFrom l tr w w₁ o o₁ g s x
   run_ends n m h i x f = record { ran = λ As z y es rs su j. rw f (all_done (p.progress As z y es rs su j) m h i) }
+
+-- a run that works on the same as one that works on the same
+pub same_still : {a b c : Run} → Same a b → Same b c → Same a c
+same_still p q = record { list = q.list ∙ p.list; trace = q.trace ∙ p.trace; values = q.values ∙ p.values; log = q.log ∙ p.log }

@@ -75,9 +75,9 @@ run_same : (l tr : List ℕ) (As : List T) → run_from l As (values_of tr) (sta
 unfolding run_from run_of trace_of start_registers
 run_same l tr As = refl
 
-pub whole_run : (l tr z w v y o g g' : List ℕ) (n count : ℕ) (r : Ran) → Copied tr z w → Started tr g g' n → g ≡ zeros → count ≡ values tr
-    → RunFrom l tr w v y o g' (record { used = 0; logged = 0; count = count; registers = n }) r → StatementsRun l tr z v y o r
-whole_run l tr z w v y o g g' n count r c st q e f = record {
+pub whole_run : (l tr z w v v' y o o' g g' : List ℕ) (n count : ℕ) (r : Ran) → v' ≡ v → o' ≡ o → Copied tr z w → Started tr g g' n → g ≡ zeros → count ≡ values tr
+    → RunFrom l tr w v y o g' (record { used = 0; logged = 0; count = count; registers = n }) r → StatementsRun l tr z v' y o' r
+whole_run l tr z w v v' y o o' g g' n count r i j c st q e f = rw (i, j) (record {
   ran = λ As t pl pt vr mr.
       let fl = ((list_passes l (startings tr)).0 pl).framed in
       let ft = ((trace_passes tr).0 pt).framed in
@@ -99,7 +99,7 @@ whole_run l tr z w v y o g g' n count r c st q e f = record {
         value_room = rw b vr;
         message_room = mr;
       }));
-}
+})
   where
     registers_count : length (start_registers tr) ≡ startings tr
     registers_count = unfold start_registers in length-map (listed (starting tr) 0 (startings tr)) symbol_register ∙ listed_length (starting tr) 0 (startings tr)

@@ -15,19 +15,12 @@ use Rattle.run_parts.specs.Registers.{Given}
 use Rattle.run_parts.specs.Types.{TypesAre}
 use Rattle.effects.specs.Effects.{Keeps}
 use Rattle.effects.specs.declared.State.{State}
-use Rattle.effects.specs.declared.Step.{Step}
-use Rattle.effects.specs.declared.Step.TheVariants.{Next, Stop}
 use Rattle.machine.specs.Statements.{Told}
 use Rattle.machine.specs.declared.Ran.{Ran}
 
 -- the answer where a run has come so far
 abbrev pub ended_as : ℕ → ℕ → State → Ran
 ended_as ending place s = record { ending = ending; place = place; used = s.used; logged = s.logged; count = s.count }
-
--- the answer where a statement ended the run
-abbrev pub stopped_as : Step → ℕ → Ran
-stopped_as (Next s) place = ended_as 0 place s
-stopped_as (Stop ending s) place = ended_as ending place s
 
 -- the registers of the starting values
 unfoldable pub start_registers : List ℕ → List (Register ℕ)

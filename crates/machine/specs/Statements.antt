@@ -1,7 +1,6 @@
 -- What a run of a judged list on a trace answers and writes: document 01's "Runs". Assumes nothing: these are definitions.
-use Rattle.std.specs.Prelude.{◌≡◌, List, ℕ, ◌+◌, ◌-◌, ◌*◌, ◌≤◌, length}
+use Rattle.std.specs.Prelude.{◌≡◌, List, ℕ, ◌+◌, ◌-◌, ◌*◌, ◌≤◌, length, Ok}
 use Rattle.answers.specs.Ladder.{least}
-use Rattle.answers.specs.declared.Check.TheVariants.{Pass}
 use Rattle.buffers.specs.Over.{over}
 use Rattle.entries.specs.Tiling.{listed, joined}
 use Rattle.list.specs.Faults.{list_rungs}
@@ -44,6 +43,6 @@ pub record Told (tr z v y o : List ℕ) (R : Result ℕ (List (Entry signature1 
 
 -- a list and a trace that pass their checks, and buffers with room for what the list may make and say
 pub record StatementsRun (l tr z v y o : List ℕ) (r : Ran) : Type 0 where
-  pub ran : (As : List T) → TypesAre l As → least (list_rungs l (startings tr)) ≡ Pass → least (trace_rungs tr) ≡ Pass
+  pub ran : (As : List T) → TypesAre l As → least (list_rungs l (startings tr)) ≡ Ok tt → least (trace_rungs tr) ≡ Ok tt
       → 5 * (values tr + builds signature1 (statements_of l)) ≤ length z → 5 * messages signature1 (statements_of l) ≤ length y
       → Told tr z v y o (run_of l tr As) r

@@ -4,12 +4,13 @@
 
 ghost use Rattle.std.specs.Prelude.{◌≡◌};
 ghost use Rattle.trace.specs.Layout.{starting};
-ghost use Rattle.machine.specs.Running.{ended_as, stopped_as, Started, RunFrom};
+ghost use Rattle.effects.specs.Effects.{ending_number, Same};
+ghost use Rattle.machine.specs.Running.{ended_as, Started, RunFrom};
 ghost use Rattle.machine.specs.Statements.{StatementsRun};
 
-use effects::{State, Step};
+use effects::{Ending, Run, State};
 
-// How a run ended: the ending, the statement's index, supplies used, messages logged, values in the table.
+// How a run ended: the ending's number, the statement's index, supplies used, messages logged, values in the table.
 #[derive(Drop)]
 pub struct Ran {
     pub ending: u8,
@@ -20,25 +21,15 @@ pub struct Ran {
 }
 
 // The answer where a run has come so far.
-fn ended(ending: u8, place: u16, s: State) -> Ran
-    ensures { result ≡ ended_as ending place s }
+fn ended(ending: Ending, place: u16, s: State) -> Ran
+    ensures { result ≡ ended_as (ending_number ending) place s }
 {
     Ran {
-        ending,
+        ending: ending as u8,
         place,
         used: s.used,
         logged: s.logged,
         count: s.count,
-    }
-}
-
-// The answer where a statement ended the run.
-fn stopped(r: Step, place: u16) -> Ran
-    ensures { result ≡ stopped_as r place }
-{
-    match r {
-        Step::Next(s) => ended(0, place, s),
-        Step::Stop(ending, s) => ended(ending, place, s),
     }
 }
 
@@ -55,38 +46,25 @@ fn start(trace: &[u8], registers: &mut [u32; 608]) -> u16
 {
     let n = trace::starting_count(trace);
     let mut given = 0;
-    let mut i = 0;
-    while i < n {
+    for i in 0..n {
         given = run_parts::give(registers, given, 2 * starting_at(trace, i) as u32 + 1);
-        i += 1;
     }
     given
 }
 
 // Runs the statements from the start, until one ends the run.
-fn run_all(
-    list: &[u8],
-    trace: &[u8],
-    values: &mut [u8],
-    log: &mut [u8],
-    registers: &mut [u32; 608],
-    first: State,
-) -> Ran
-    ensures { RunFrom list.now trace.now values.old values.new log.old log.new registers.old first result }
+fn run_all(run: &mut Run<'_>) -> Ran
+    ensures same { Same run.old run.new }
+    ensures ran { RunFrom run.old.list.now run.old.trace.now run.old.values.now run.new.values.now run.old.log.now run.new.log.now run.old.registers run.old.state result }
 {
-    let n = list::statement_count(list);
-    let base = list::statements_at(list);
-    let mut s = first;
-    let mut k = 0;
-    while k < n {
-        let r = execution::execute(list, base, k, trace, values, log, registers, s);
-        let Step::Next(next) = r else {
-            return stopped(r, k);
-        };
-        s = next;
-        k += 1;
+    let n = list::statement_count(run.list);
+    let base = list::statements_at(run.list);
+    for k in 0..n {
+        if let Err(ending) = execution::execute(run, base, k) {
+            return ended(ending, k, run.state);
+        }
     }
-    ended(0, n, s)
+    ended(Ending::Finished, n, run.state)
 }
 
 // Runs a list on a trace.
@@ -96,11 +74,18 @@ pub fn run_statements(list: &[u8], trace: &[u8], values: &mut [u8], log: &mut [u
     value_table::copy_values(values, trace);
     let mut registers = [0u32; 608];
     let given = start(trace, &mut registers);
-    let first = State {
-        used: 0,
-        logged: 0,
-        count: trace::value_count(trace),
-        registers: given,
+    let mut run = Run {
+        list,
+        trace,
+        values,
+        log,
+        registers,
+        state: State {
+            used: 0,
+            logged: 0,
+            count: trace::value_count(trace),
+            registers: given,
+        },
     };
-    run_all(list, trace, values, log, &mut registers, first)
+    run_all(&mut run)
 }

@@ -7,7 +7,6 @@ use Prim.Native.Nat.{ℕ, ◌≤◌, ◌<◌}
 use lib.Dec.{ltb}
 use lib.ListN.{length}
 use borrow.Author.Tests.{ltb-true, ltb-false}
-use Rattle.answers.specs.declared.Check.{Check}
 use Rattle.machine.specs.declared.Ran.{Ran}
 use Rattle.type_service.specs.Services.{Answered, types_file}
 use Rattle.type_service.proofs.ServiceLaws.{answered_once}
@@ -18,8 +17,10 @@ use Rattle.shelf_service.proofs.Once.{shelf_answered_once}
 use Rattle.run_service.specs.Runs.{RunAnswered}
 use Rattle.run_service.proofs.Once.{run_answered_once}
 use Rattle.mirvashol.specs.Given.{EntriesGiven}
-use Rattle.mirvashol.specs.Entries.{entries_of, run_entries}
+use Rattle.mirvashol.specs.Entries.{entries_of, written_entries, run_entries}
 use Rattle.mirvashol.specs.Served.{Served, JudgeServed, RunServed}
+use Rattle.answers.specs.declared.Refusal.{Refusal}
+use Rattle.std.proofs.Common.{Result}
 
 -- an array is too short for eight entries, or it is not
 by_length : {C : Type 0} (z : List ℕ) → (length z < 8 → C) → (8 ≤ length z → C) → C
@@ -40,16 +41,16 @@ given_once z o p r q es g h = by_length z
 -- ── A service that writes a file ──
 
 -- where no two answers fit the service's own promise A, none fit the function's
-pub served_once : (A : List ℕ → Check → ℕ → Type 0) → ((o p : List ℕ) (a b : Check) (m n : ℕ) → A o a m → A p b n → (o ≡ p) × (a ≡ b) × (m ≡ n))
+pub served_once : (A : List ℕ → Result ℕ Refusal → Type 0) → ((o p : List ℕ) (a b : Result ℕ Refusal) → A o a → A p b → (o ≡ p) × (a ≡ b))
     → (z o p given gives gives' : List ℕ) (r q : ℕ) → Served A z o given gives r → Served A z p given gives' q → (o ≡ p) × (gives ≡ gives') × (r ≡ q)
 served_once A once z o p given gives gives' r q s t = by_length given
     (λ l. let (e, f, g) = s.short l in let (e', f', g') = t.short l in (f ∙ sym f', g ∙ sym g', e ∙ sym e'))
     (λ l.
-    let (a, m, x, g) = s.long l in
-    let (b, n, y, h) = t.long l in
-    let (e, f, k) = once o p a b m n x y in
-    let h' : EntriesGiven given gives' q (entries_of a m 0 0) = rw (f, k) h in
-    let (i, j) = given_once given gives gives' r q (entries_of a m 0 0) g h' in
+    let (a, x, g) = s.long l in
+    let (b, y, h) = t.long l in
+    let (e, f) = once o p a b x y in
+    let h' : EntriesGiven given gives' q (written_entries a) = rw f h in
+    let (i, j) = given_once given gives gives' r q (written_entries a) g h' in
     (e, i, j))
 
 -- typing a table
@@ -78,18 +79,18 @@ mirvashol_judge_shelf_once t lists lengths z = served_once (ShelfAnswered t list
 -- ── The run ──
 
 -- where no two answers fit the service's own promise A, none fit the function's
-pub run_served_once : (A : List ℕ → List ℕ → Check → Ran → Type 0)
-    → ((v v' o o' : List ℕ) (a b : Check) (m n : Ran) → A v o a m → A v' o' b n → (v ≡ v') × (o ≡ o') × (a ≡ b) × (m ≡ n))
+pub run_served_once : (A : List ℕ → List ℕ → Result Ran Refusal → Type 0)
+    → ((v v' o o' : List ℕ) (a b : Result Ran Refusal) → A v o a → A v' o' b → (v ≡ v') × (o ≡ o') × (a ≡ b))
     → (z v v' y o o' given gives gives' : List ℕ) (r q : ℕ) → RunServed A z v y o given gives r → RunServed A z v' y o' given gives' q
     → (v ≡ v') × (o ≡ o') × (gives ≡ gives') × (r ≡ q)
 run_served_once A once z v v' y o o' given gives gives' r q s t = by_length given
     (λ l. let (e, f, g, h) = s.short l in let (e', f', g', h') = t.short l in (f ∙ sym f', g ∙ sym g', h ∙ sym h', e ∙ sym e'))
     (λ l.
-    let (a, m, x, g) = s.long l in
-    let (b, n, w, h) = t.long l in
-    let (e, f, i, k) = once v v' o o' a b m n x w in
-    let h' : EntriesGiven given gives' q (run_entries a m) = rw (i, k) h in
-    let (c, d) = given_once given gives gives' r q (run_entries a m) g h' in
+    let (a, x, g) = s.long l in
+    let (b, w, h) = t.long l in
+    let (e, f, i) = once v v' o o' a b x w in
+    let h' : EntriesGiven given gives' q (run_entries a) = rw i h in
+    let (c, d) = given_once given gives gives' r q (run_entries a) g h' in
     (e, f, c, d))
 
 -- running a list on a trace

@@ -10,10 +10,9 @@ ghost use Rattle.shelf_service.specs.Shelf.{ShelfAnswered};
 ghost use Rattle.run_service.specs.Runs.{RunAnswered};
 ghost use Rattle.mirvashol.specs.Given.{EntriesGiven};
 ghost use Rattle.mirvashol.specs.Served.{Served, JudgeServed, RunServed};
-ghost use Rattle.mirvashol.specs.Entries.{entries_of, table_entries, list_entries, trace_entries, type_of_entries, run_entries};
+ghost use Rattle.mirvashol.specs.Entries.{refusal_entries, entries_of, written_entries, table_entries, list_entries, trace_entries, type_of_entries, run_entries};
 
-use answers::Check;
-use list::Part;
+use answers::{Check, Refusal};
 use machine::Ran;
 
 // Gives the entries, where there is room for them.
@@ -33,25 +32,36 @@ fn give(
     if answer.len() < 8 {
         return 255;
     }
-    answer[0] = number as u64;
-    answer[1] = file as u64;
-    answer[2] = place;
-    answer[3] = a;
-    answer[4] = b;
-    answer[5] = c;
-    answer[6] = d;
-    answer[7] = e;
+    let entries = [number as u64, file as u64, place, a, b, c, d, e];
+    answer[..8].copy_from_slice(&entries);
     number
+}
+
+// Gives a refusal: what was read is 0.
+fn give_refusal(answer: &mut [u64], x: Refusal) -> u8
+    ensures { EntriesGiven answer.old answer.new result (refusal_entries x) }
+{
+    give(answer, x.number, x.file, x.place, 0, 0, 0, 0, 0)
 }
 
 // Gives what a reader answers.
 fn give_check(answer: &mut [u64], check: Check, a: u64, b: u64, c: u64) -> u8
     ensures { EntriesGiven answer.old answer.new result (entries_of check a b c) }
 {
-    let Check::Refuse(x) = check else {
-        return give(answer, 0, 0, 0, a, b, c, 0, 0);
-    };
-    give(answer, x.number, x.file, x.place, 0, 0, 0, 0, 0)
+    match check {
+        Ok(()) => give(answer, 0, 0, 0, a, b, c, 0, 0),
+        Err(x) => give_refusal(answer, x),
+    }
+}
+
+// Gives what a service that writes answers: the number of bytes.
+fn give_written(answer: &mut [u64], written: Result<usize, Refusal>) -> u8
+    ensures { EntriesGiven answer.old answer.new result (written_entries written) }
+{
+    match written {
+        Ok(n) => give(answer, 0, 0, 0, n as u64, 0, 0, 0, 0),
+        Err(x) => give_refusal(answer, x),
+    }
 }
 
 // Reads a table: numbers 1 to 9, or S, T and P.
@@ -95,11 +105,12 @@ pub extern "C" fn mirvashol_check_trace(trace: &[u8], answer: &mut [u64]) -> u8
 pub extern "C" fn mirvashol_type_of(list: &[u8], symbol: usize, answer: &mut [u64]) -> u8
     ensures { EntriesGiven answer.old answer.new result (type_of_entries list.now symbol) }
 {
-    let part = list::type_part(list, symbol);
-    let Part::At(start, count) = part else {
+    let Some(part) = list::type_part(list, symbol) else {
         return give(answer, 0, 0, 0, 0, 0, 0, 0, 0);
     };
-    give(answer, 0, 0, 0, start as u64, count as u64, 0, 0, 0)
+    let start = part.start as u64;
+    let count = part.len() as u64;
+    give(answer, 0, 0, 0, start, count, 0, 0, 0)
 }
 
 // The widest types of a table: a refusal, or the bytes written.
@@ -110,9 +121,8 @@ pub extern "C" fn mirvashol_type(table: &[u8], out: &mut [u8], answer: &mut [u64
     if answer.len() < 8 {
         return 255;
     }
-    let w = type_service::type_table(table, out);
-    let check = w.check;
-    give_check(answer, check, w.bytes as u64, 0, 0)
+    let written = type_service::type_table(table, out);
+    give_written(answer, written)
 }
 
 // The list of a table: a refusal, or the bytes written.
@@ -123,9 +133,8 @@ pub extern "C" fn mirvashol_compile(table: &[u8], out: &mut [u8], answer: &mut [
     if answer.len() < 8 {
         return 255;
     }
-    let w = compile_service::compile(table, out);
-    let check = w.check;
-    give_check(answer, check, w.bytes as u64, 0, 0)
+    let written = compile_service::compile(table, out);
+    give_written(answer, written)
 }
 
 // Judges a list against a table: a refusal, or none where the list is accepted.
@@ -152,9 +161,8 @@ pub extern "C" fn mirvashol_judge_shelf(
     if answer.len() < 8 {
         return 255;
     }
-    let w = shelf_service::judge_shelf(table, lists, lengths, verdicts);
-    let check = w.check;
-    give_check(answer, check, w.bytes as u64, 0, 0)
+    let written = shelf_service::judge_shelf(table, lists, lengths, verdicts);
+    give_written(answer, written)
 }
 
 // Runs a list on a trace: a refusal; or ending, statement index, supplies used, messages logged, and values in the table.
@@ -172,33 +180,24 @@ pub extern "C" fn mirvashol_run(
     if answer.len() < 8 {
         return 255;
     }
-    let outcome = run_service::run(table, list, trace, values, log);
-    let check = outcome.check;
-    let ran = outcome.ran;
-    give_run(answer, check, ran)
+    let ran = run_service::run(table, list, trace, values, log);
+    give_run(answer, ran)
 }
 
 // Gives what a run answers.
-fn give_run(answer: &mut [u64], check: Check, ran: Ran) -> u8
-    ensures { EntriesGiven answer.old answer.new result (run_entries check ran) }
+fn give_run(answer: &mut [u64], ran: Result<Ran, Refusal>) -> u8
+    ensures { EntriesGiven answer.old answer.new result (run_entries ran) }
 {
-    let Check::Refuse(x) = check else {
-        let a = ran.ending as u64;
-        let b = ran.place as u64;
-        let c = ran.used as u64;
-        return give(
-            answer,
-            0,
-            0,
-            0,
-            a,
-            b,
-            c,
-            ran.logged as u64,
-            ran.count as u64,
-        );
-    };
-    give(answer, x.number, x.file, x.place, 0, 0, 0, 0, 0)
+    match ran {
+        Ok(r) => {
+            let ending = r.ending as u64;
+            let place = r.place as u64;
+            let used = r.used as u64;
+            let logged = r.logged as u64;
+            give(answer, 0, 0, 0, ending, place, used, logged, r.count as u64)
+        }
+        Err(x) => give_refusal(answer, x),
+    }
 }
 
 // A number of free symbols in 16 bits.

@@ -14,11 +14,11 @@ use Rattle.base.proofs.BothLaws.{both_parts}
 use Rattle.codes.specs.Marks.{mark, header}
 use Rattle.answers.specs.Ladder.{Rung, whole, least}
 use Rattle.answers.specs.Least.{Ordered}
-use Rattle.answers.specs.declared.Check.TheVariants.{Pass}
 use Rattle.answers.proofs.Ladder.{whole_right}
 use Rattle.answers.proofs.Leads.{all_above, at_once}
 use Rattle.answers.proofs.Passes.{whole_passed}
 use Rattle.opening.specs.Opening.{marked, version, framed}
+use Rattle.std.proofs.Common.{Ok}
 
 -- rungs above a number are above every lower one
 above_lower : (m n : ℕ) (rs : List Rung) → m ≤ n → T (all_above n rs) → T (all_above m rs)
@@ -44,8 +44,8 @@ pub record Framed (file : ℕ) (s : List ℕ) (counts size : Bool) : Type 0 wher
   pub size_right : size ≡ true
 
 -- where a frame and what follows it pass, it holds, and what follows passes
-pub frame_passed : (file : ℕ) (s : List ℕ) (counts size : Bool) (rs : List Rung) → least (framed file s counts size ++ rs) ≡ Pass
-    → Framed file s counts size × (least rs ≡ Pass)
+pub frame_passed : (file : ℕ) (s : List ℕ) (counts size : Bool) (rs : List Rung) → least (framed file s counts size ++ rs) ≡ Ok tt
+    → Framed file s counts size × (least rs ≡ Ok tt)
 frame_passed file s counts size rs e =
     let (m, e₁) = whole_passed 1 file (marked file s) (whole 2 file (eqb (version s) 1) ∷ whole 3 file counts ∷ whole 4 file size ∷ rs) e in
     let (v, e₂) = whole_passed 2 file (eqb (version s) 1) (whole 3 file counts ∷ whole 4 file size ∷ rs) e₁ in

@@ -7,7 +7,6 @@ use native.Mathlib.Omega.{arith}
 use lib.Dec.{eqb}
 use borrow.Author.Tests.{eqb-true, eqb-false}
 use Rattle.answers.specs.Ladder.{least}
-use Rattle.answers.specs.declared.Check.TheVariants.{Pass}
 use Rattle.entries.specs.Fields.{code}
 use Rattle.table_layout.specs.Layout.{terms, terms_at, term_field}
 use Rattle.table.specs.Faults.{table_rungs}
@@ -16,8 +15,9 @@ use Rattle.decoded.specs.Indexes.{meaning_of}
 use Rattle.decoded.proofs.Tabled.{counts_small, a_leaf, a_compound}
 use Rattle.registers.specs.Held.{held, Held, register_at, held_at, register_in}
 use Rattle.registers.proofs.HeldLaws.{register_held}
+use Rattle.std.proofs.Common.{Ok}
 
-module _ (s : List ℕ) (e : least (table_rungs s) ≡ Pass) where
+module _ (s : List ℕ) (e : least (table_rungs s) ≡ Ok tt) where
   pub register_right : (i : ℕ) → i < terms s → (ms : List Meaning) {symbols array : List ℕ} {registers : ℕ} → Held ms symbols array registers
       → register_in s i symbols array registers ≡ register_at s ms i
   unfolding register_in register_at held_at meaning_of meant_by

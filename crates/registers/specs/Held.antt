@@ -1,19 +1,16 @@
 -- What the two arrays hold: the mark of each symbol and of each compound term, which is one more than its register, and 0 where it has
 -- none. Assumes nothing: these are definitions.
-use Rattle.std.specs.Prelude.{◌≡◌, Bool, cond, not, List, ◌++◌, map, ℕ, suc, ◌-◌, ◌<◌, eqb, length, get_or}
+use Rattle.std.specs.Prelude.{◌≡◌, Bool, cond, not, List, map, ℕ, suc, ◌-◌, ◌<◌, eqb, length, get_or, Ok}
 use Rattle.base.specs.Pick.{pick, both, either}
 use Rattle.answers.specs.Ladder.{least}
-use Rattle.answers.specs.declared.Check.TheVariants.{Pass}
 use Rattle.marks.specs.Put.{Put, blank}
 use Rattle.entries.specs.Fields.{code}
 use Rattle.table_layout.specs.Layout.{terms_at, term_field}
 use Rattle.table.specs.Faults.{table_rungs}
-use Rattle.calculus.specs.Tables.{is_in}
 use Rattle.rendering.specs.Judge.{Meaning, symbol, term}
 use Rattle.rendering.specs.Translation.{register_of, is_built}
 use Rattle.decoded.specs.Table.{free_of}
 use Rattle.decoded.specs.Indexes.{meaning_of}
-use Rattle.free_symbols.specs.Free.{if_free}
 
 -- ── By meaning ──
 
@@ -66,17 +63,7 @@ settled s i terms = either (eqb (code s 0 (terms_at s) i) 0) (not (eqb (get_or t
 abbrev pub Noted : List ℕ → List ℕ → ℕ → ℕ → Type 0
 Noted z o at mark = Put z o (λ i. both (eqb (get_or z at 0) 0) (eqb at i)) mark
 
--- symbol x, if it is not in l
-abbrev pub meaning_if_free : List ℕ → ℕ → List Meaning
-meaning_if_free l x = map symbol (if_free l x)
-
--- whatever symbols are marked as bound and whatever meanings the array holds, symbol x follows them if it is not marked
-abbrev pub NotesFree : List ℕ → ℕ → List ℕ → List ℕ → ℕ → ℕ → Type 0
-NotesFree marks x symbols symbols' registers registers' =
-    (l : List ℕ) (ms : List Meaning) → Put blank marks (λ y. is_in y l) 1 → HeldSymbols ms symbols → registers ≡ length ms
-    → HeldSymbols (ms ++ meaning_if_free l x) symbols' × (registers' ≡ length (ms ++ meaning_if_free l x))
-
 -- where 1 to 9 pass, an array that held nothing now holds the free symbols, of which there are so many
 abbrev pub FreeNoted : List ℕ → List ℕ → List ℕ → ℕ → Type 0
 FreeNoted s symbols symbols' registers =
-    least (table_rungs s) ≡ Pass → symbols ≡ blank → HeldSymbols (at_start s) symbols' × (registers ≡ length (at_start s))
+    least (table_rungs s) ≡ Ok tt → symbols ≡ blank → HeldSymbols (at_start s) symbols' × (registers ≡ length (at_start s))

@@ -6,55 +6,31 @@ ghost use Rattle.std.specs.Prelude.{◌≡◌};
 ghost use Rattle.calculus.specs.Version1.{signature1};
 ghost use Rattle.running.specs.Demand3.{builds, messages};
 ghost use Rattle.decoded_list.specs.Statements.{statements_of};
-ghost use Rattle.room_counts.specs.Room.{room, one_if, needing};
+ghost use Rattle.room_counts.specs.Room.{Counts};
 
-// What a statement of this op takes room for: 1 a value, 2 a message, 0 nothing.
-fn room_of(op: u8) -> u8
-    ensures { result ≡ room op }
-{
-    match op {
-        0..=1 => 2,
-        2..=6 => 0,
-        7..=8 => 1,
-        9..=255 => 0,
-    }
-}
+use codes::Kind;
 
-// 1 if statement i takes this kind of room, else 0.
-fn one_if(list: &[u8], base: u32, i: u16, kind: u8) -> u16
-    ensures { result ≡ one_if list.now base i kind }
+// The statements whose op passes a test.
+fn count_of<F: Fn(u8) -> bool>(list: &[u8], test: F) -> u16
+    requires { F.IsAlwaysCallable test }
+    ensures { Counts (F.post test) list.now result }
 {
-    if room_of(entries::code_at(list, codes::STATEMENT, base, i)) == kind {
-        return 1;
-    }
-    0
-}
-
-// The statements that take this kind of room.
-fn count_of(list: &[u8], kind: u8) -> u16
-    ensures { result ≡ needing list.now kind }
-{
-    let n = list::statement_count(list);
     let base = list::statements_at(list);
-    let mut count: u16 = 0;
-    let mut i: u16 = 0;
-    while i < n {
-        count += one_if(list, base, i, kind);
-        i += 1;
-    }
-    count
+    (0..list::statement_count(list))
+        .filter(|&i| test(entries::code_at(list, Kind::Statement, base, i)))
+        .count() as u16
 }
 
 // The statements that build: 7 and 8.
 pub fn build_count(list: &[u8]) -> u16
     ensures { result ≡ builds signature1 (statements_of list.now) }
 {
-    count_of(list, 1)
+    count_of(list, |op| matches!(op, 7 | 8))
 }
 
 // The statements that send or receive: 0 and 1.
 pub fn message_count(list: &[u8]) -> u16
     ensures { result ≡ messages signature1 (statements_of list.now) }
 {
-    count_of(list, 2)
+    count_of(list, |op| matches!(op, 0 | 1))
 }

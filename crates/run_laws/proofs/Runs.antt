@@ -5,7 +5,6 @@ use Prim.Native.Nat.{ℕ, ◌<◌}
 use native.Mathlib.Omega.{arith}
 use lib.ListN.{length}
 use Rattle.answers.specs.Ladder.{least}
-use Rattle.answers.specs.declared.Check.TheVariants.{Pass}
 use Rattle.entries.specs.Tiling.{listed}
 use Rattle.entries.proofs.Tiling.{listed_length}
 use Rattle.table_layout.specs.Layout.{symbols}
@@ -37,11 +36,12 @@ use Rattle.machine.specs.Statements.{trace_of}
 use Rattle.run_laws.specs.Runs.{AcceptedRunsKeepDemand3}
 use Rattle.run_laws.proofs.Agreeing.{typed_same}
 use Rattle.run_laws.proofs.Occurring.{process_below}
+use Rattle.std.proofs.Common.{Ok}
 
 -- ── The types of a list ──
 
 -- a process that is typed under Γ is typed under the list of Γ's types, with Message outside it
-pub typed_under_list : (t : List ℕ) (Γ : Env signature1) (As : List T) → least (table_rungs t) ≡ Pass → As ≡ types_to Γ (symbols t)
+pub typed_under_list : (t : List ℕ) (Γ : Env signature1) (As : List T) → least (table_rungs t) ≡ Ok tt → As ≡ types_to Γ (symbols t)
     → Typed signature1 Γ (process signature1 (table_of t)) → Typed signature1 (types_of signature1 As) (process signature1 (table_of t))
 typed_under_list t Γ As e q ty = typed_same signature1 (length (table_of t).sorts) Γ (types_of signature1 As) same ty (process_below (table_of t) (table_checked t e) (in_range t e))
   where
@@ -59,7 +59,7 @@ named : (tr : List ℕ) (f : ℕ → ℕ) (n : ℕ) → ((i : ℕ) → i < n →
 named tr f n h = all_of (listed f 0 n) (λ x a. let (k, l, u, e) = listed_in f 0 n a in rw (e, values_length tr) (h k (omega arith)))
 
 -- a trace that passes 1 to 6 is checked in the meaning's sense
-pub checked_trace : (tr : List ℕ) → least (trace_rungs tr) ≡ Pass → CheckedTrace signature1 (trace_of tr)
+pub checked_trace : (tr : List ℕ) → least (trace_rungs tr) ≡ Ok tt → CheckedTrace signature1 (trace_of tr)
 unfolding trace_of
 checked_trace tr e =
     let v = trace_values tr e in

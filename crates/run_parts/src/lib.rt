@@ -12,8 +12,11 @@ ghost use Rattle.run_parts.specs.Types.{Passes};
 
 // ── Registers ──
 
+// As many as a run can have: one for each of 96 symbols, and one for each of 512 statements.
+pub type Registers = [u32; 608];
+
 // What register p holds; 0 where it is not given.
-pub fn value_in(registers: &[u32; 608], given: u16, p: u8) -> u16
+pub fn value_in(registers: &Registers, given: u16, p: u8) -> u16
     ensures { result ≡ value_in registers.now given p }
 {
     if (p as u16) < given {
@@ -23,7 +26,7 @@ pub fn value_in(registers: &[u32; 608], given: u16, p: u8) -> u16
 }
 
 // Gives the next register.
-pub fn give(registers: &mut [u32; 608], given: u16, number: u32) -> u16
+pub fn give(registers: &mut Registers, given: u16, number: u32) -> u16
     ensures { Gives registers.old given number registers.new result }
 {
     if given < 608 {
@@ -39,7 +42,7 @@ pub fn give(registers: &mut [u32; 608], given: u16, number: u32) -> u16
 pub fn say(log: &mut [u8], logged: u16, direction: u8, c: u16, v: u16) -> u16
     ensures { Says log.old logged direction c v log.new result }
 {
-    if logged == 65535 {
+    if logged == u16::MAX {
         return logged;
     }
     value_table::append(log, logged, direction, c, v);
@@ -50,10 +53,8 @@ pub fn say(log: &mut [u8], logged: u16, direction: u8, c: u16, v: u16) -> u16
 pub fn passes(list: &[u8], x: u8, values: &[u8], count: u16, v: u16) -> bool
     ensures { Passes list.now x values.now count v result }
 {
-    if x < list::symbol_count(list) {
-        return visible::visible_at(list, list::type_at(list, x) as usize + 1, values, count, v);
-    }
-    true
+    list::symbol_count(list) <= x
+        || visible::visible_at(list, list::type_at(list, x) as usize + 1, values, count, v)
 }
 
 // Supplied value i.

@@ -5,7 +5,6 @@ use Prim.Native.Nat.{ℕ, zero, suc, ◌+◌, ◌-◌, ◌<◌}
 use native.Mathlib.Omega.{arith}
 use lib.ListN.{length, drop, length-append, length-map}
 use lib.Seq.{drop_at}
-use Rattle.answers.specs.declared.Check.TheVariants.{Pass}
 use Rattle.entries.specs.Tiling.{listed}
 use Rattle.entries.proofs.Tiling.{listed_length}
 use Rattle.list.specs.Layout.{statements}
@@ -31,6 +30,7 @@ use Rattle.run_service.specs.Runs.{Runnable, RunAnswered, ran}
 use Rattle.run_service.specs.Read.{process_of, NotByType, EndsInList, KeepsDemand3}
 use Rattle.run_service.proofs.Stages.{accepted}
 use Rattle.run_service.proofs.ReadBack.{told_terms}
+use Rattle.std.proofs.Common.{Ok}
 
 -- ── Endings by their numbers ──
 
@@ -140,7 +140,7 @@ lacking_as : (Γ : ℕ → Ty signature1.types) (P : Process signature1) (σ : B
 lacking_as Γ P σ su a b c d l = rw (a, b, c, d) l
 
 -- what number 14 leaves
-started : {t tr : List ℕ} {As : List T} → Fourteen t As tr Pass → Starts signature1 (types_of signature1 As) (values_of tr) (free_of t) (listed (starting tr) 0 (startings tr))
+started : {t tr : List ℕ} {As : List T} → Fourteen t As tr (Ok tt) → Starts signature1 (types_of signature1 As) (values_of tr) (free_of t) (listed (starting tr) 0 (startings tr))
 started (starts h q) = q
 
 module _ (t l tr z y v o : List ℕ) (r : Ran) (s : Runnable t l tr z y) (m : Told tr z v y o (run_of l tr s.sound.decoded.types) r) where
@@ -194,9 +194,9 @@ module _ (t l tr z y v o : List ℕ) (r : Ran) (s : Runnable t l tr z y) (m : To
   }
 
 -- a run that nothing refuses keeps demand 3
-pub run_keeps_demand_3 : (t l tr z y v o : List ℕ) (r : Ran) → RunAnswered t l tr z y v o Pass r → KeepsDemand3 t l tr v o r
+pub run_keeps_demand_3 : (t l tr z y v o : List ℕ) (r : Ran) → RunAnswered t l tr z y v o (Ok r) → KeepsDemand3 t l tr v o r
 run_keeps_demand_3 t l tr z y v o r (ran s m) = keeps t l tr z y v o r s m
 
 -- its statement index is N where it finished, else below N
-pub run_ends_in_list : (t l tr z y v o : List ℕ) (r : Ran) → RunAnswered t l tr z y v o Pass r → EndsInList l r
+pub run_ends_in_list : (t l tr z y v o : List ℕ) (r : Ran) → RunAnswered t l tr z y v o (Ok r) → EndsInList l r
 run_ends_in_list t l tr z y v o r (ran s m) = in_list t l tr z y v o r s m

@@ -4,10 +4,8 @@ use mathlib.Core.List.{List}
 use Prim.Native.Nat.{ℕ}
 use native.Mathlib.Omega.{arith}
 use lib.ListN.{length}
-use Rattle.answers.specs.Ladder.{least}
+use Rattle.answers.specs.Ladder.{least, Check}
 use Rattle.answers.specs.declared.Refusal.{Refusal}
-use Rattle.answers.specs.declared.Check.{Check}
-use Rattle.answers.specs.declared.Check.TheVariants.{Pass, Refuse}
 use Rattle.trace.specs.Faults.{trace_rungs}
 use Rattle.calculus.specs.Version1.{signature1}
 use Rattle.rendering.specs.Lists.{StatementList}
@@ -23,20 +21,21 @@ use Rattle.type_service.specs.Services.{RoomChecked, enough, short}
 use Rattle.judge_service.specs.Judged.{Judged}
 use Rattle.judge_service.proofs.Exact.{judged_once}
 use Rattle.run_service.specs.Runs.{value_need, message_need, Sound, RunRefused, not_accepted, trace_faulty, start_lacks, values_short, messages_short, Runnable, RunAnswered, refused, ran}
+use Rattle.std.proofs.Common.{Result, Ok, Err}
 
 -- ── Tests one after the other ──
 
 -- of a test and the rest: the first refusal
 data Then (P Q : Check → Type 0) : Check → Type 0 where
-  stopped : {x : Refusal} → P (Refuse x) → Then P Q (Refuse x)
-  passed : {c : Check} → P Pass → Q c → Then P Q c
+  stopped : {x : Refusal} → P (Err x) → Then P Q (Err x)
+  passed : {c : Check} → P (Ok tt) → Q c → Then P Q c
 
 -- no two answers fit
 abbrev Single : (Check → Type 0) → Type 0
 Single P = (a b : Check) → P a → P b → a ≡ b
 
 -- passed and refused are two
-apart : {C : Type 0} (x : Refusal) → Pass ≡ Refuse x → C
+apart : {C : Type 0} (x : Refusal) → ◌≡◌ {A = Check} (Ok tt) (Err x) → C
 apart x e = let y : ◌≡◌ {A = ℕ} 0 1 = cc in absurd (omega arith)
 
 -- a test that has one answer, then another such
@@ -90,7 +89,7 @@ module _ (t l tr : List ℕ) where
     sound_then s p = passed s.accepted (passed s.trace_sound (passed (s.decoded, s.starts) p))
 
     -- what a run's refusal says, test by test
-    refused_tested : (x : Refusal) → RunRefused t l tr z y x → Tested (Refuse x)
+    refused_tested : (x : Refusal) → RunRefused t l tr z y x → Tested (Err x)
     refused_tested x (not_accepted j) = stopped j
     refused_tested x (trace_faulty j e) = passed j (stopped e)
     refused_tested x (start_lacks j e d f) = passed j (passed e (stopped (d, f)))
@@ -98,7 +97,7 @@ module _ (t l tr : List ℕ) where
     refused_tested x (messages_short s v h) = sound_then s (passed (enough v) (short h))
 
     -- where nothing is refused, all are passed
-    runnable_tested : Runnable t l tr z y → Tested Pass
+    runnable_tested : Runnable t l tr z y → Tested (Ok tt)
     runnable_tested r = sound_then r.sound (passed (enough r.value_room) (enough r.message_room))
 
     -- so nothing is both
@@ -108,13 +107,15 @@ module _ (t l tr : List ℕ) where
 -- ── The answer ──
 
 -- two answers, with two contents of both buffers, that both meet the promise are equal
-pub run_answered_once : (t l tr z y v v' o o' : List ℕ) (a b : Check) (r q : Ran) → RunAnswered t l tr z y v o a r → RunAnswered t l tr z y v' o' b q
-    → (v ≡ v') × (o ≡ o') × (a ≡ b) × (r ≡ q)
-run_answered_once t l tr z y v v' o o' a b r q (refused {x = x} f) (refused {x = x'} g) = (refl, refl, tested_once t l tr z y _ _ (refused_tested t l tr z y x f) (refused_tested t l tr z y x' g), refl)
-run_answered_once t l tr z y v v' o o' a b r q (refused {x = x} f) (ran s m) = refused_or_not t l tr z y x f s
-run_answered_once t l tr z y v v' o o' a b r q (ran s m) (refused {x = x} f) = refused_or_not t l tr z y x f s
-run_answered_once t l tr z y v v' o o' a b r q (ran s m) (ran u n) =
+pub run_answered_once : (t l tr z y v v' o o' : List ℕ) (a b : Result Ran Refusal) → RunAnswered t l tr z y v o a → RunAnswered t l tr z y v' o' b
+    → (v ≡ v') × (o ≡ o') × (a ≡ b)
+run_answered_once t l tr z y v v' o o' a b (refused {x = x} f) (refused {x = x'} g) =
+    let e : ◌≡◌ {A = Check} (Err x) (Err x') = tested_once t l tr z y _ _ (refused_tested t l tr z y x f) (refused_tested t l tr z y x' g) in
+    let h : x ≡ x' = cc in (refl, refl, ap Err h)
+run_answered_once t l tr z y v v' o o' a b (refused {x = x} f) (ran s m) = refused_or_not t l tr z y x f s
+run_answered_once t l tr z y v v' o o' a b (ran s m) (refused {x = x} f) = refused_or_not t l tr z y x f s
+run_answered_once t l tr z y v v' o o' a b (ran {r = r} s m) (ran u n) =
     let e : s.sound.decoded.types ≡ u.sound.decoded.types = same_types l s.sound.decoded u.sound.decoded in
     let k : Told tr z v y o (run_of l tr u.sound.decoded.types) r = rw e at m in
     let (f, g, h) = told_once k n in
-    (g, h, refl, f)
+    (g, h, ap Ok f)

@@ -6,7 +6,6 @@ use native.Mathlib.Omega.{arith}
 use lib.ListN.{length, drop, get_or}
 use lib.Seq.{get_or-drop, drop-drop}
 use Rattle.base.specs.Bytes.{byte, word}
-use Rattle.answers.specs.declared.Check.TheVariants.{Pass}
 use Rattle.buffers.specs.Over.{over}
 use Rattle.entries.specs.Tiling.{listed, joined}
 use Rattle.calculus.specs.Terms.{Atom}
@@ -24,6 +23,7 @@ use Rattle.machine.specs.declared.Ran.{Ran}
 use Rattle.run_service.specs.Runs.{RunAnswered, ran}
 use Rattle.run_service.specs.Read.{direction_of, message_in, messages_in, messages_read}
 use Rattle.run_service.proofs.Once.{same_types}
+use Rattle.std.proofs.Common.{Ok}
 
 -- ── A message ──
 
@@ -94,7 +94,7 @@ module _ {tr z v y o : List ℕ} {R : Result ℕ (List (Entry signature1 Atom))}
 -- ── The service ──
 
 -- the meaning layer's run, of the list's types, is what stands in the buffers: its values, its messages, what they say
-pub run_reads_back : (t l tr z y v o : List ℕ) (r : Ran) (d : Decoded l) → RunAnswered t l tr z y v o Pass r
+pub run_reads_back : (t l tr z y v o : List ℕ) (r : Ran) (d : Decoded l) → RunAnswered t l tr z y v o (Ok r)
     → (table_at v r.count ≡ (run_of l tr d.types).store) × (messages_in o r.logged ≡ (run_of l tr d.types).log)
     × (messages_read v o r ≡ said signature1 (typed (types_of signature1 d.types)) (statements_of l) (trace_of tr))
 unfolding run_of

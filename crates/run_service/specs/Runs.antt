@@ -1,10 +1,8 @@
 -- What a run answers, in the words of the meaning: the first refusal by document 01's order, or the run. Assumes nothing: these are
 -- definitions.
-use Rattle.std.specs.Prelude.{◌≡◌, List, ℕ, ◌+◌, ◌*◌, ◌≤◌, ◌<◌, length}
-use Rattle.answers.specs.Ladder.{refusal, least}
+use Rattle.std.specs.Prelude.{◌≡◌, List, ℕ, ◌+◌, ◌*◌, ◌≤◌, ◌<◌, length, Result, Ok, Err}
+use Rattle.answers.specs.Ladder.{refusal, least, Check}
 use Rattle.answers.specs.declared.Refusal.{Refusal}
-use Rattle.answers.specs.declared.Check.{Check}
-use Rattle.answers.specs.declared.Check.TheVariants.{Pass, Refuse}
 use Rattle.trace.specs.Layout.{values}
 use Rattle.trace.specs.Faults.{trace_rungs}
 use Rattle.calculus.specs.Version1.{signature1}
@@ -25,16 +23,16 @@ message_need l = 5 * messages signature1 (statements_of l)
 
 -- the list is accepted, the trace has no fault 1 to 6, and each free symbol has a starting value that visibly has its type
 pub record Sound (t l tr : List ℕ) : Type 0 where
-  pub accepted : Judged t l Pass
-  pub trace_sound : least (trace_rungs tr) ≡ Pass
+  pub accepted : Judged t l (Ok tt)
+  pub trace_sound : least (trace_rungs tr) ≡ Ok tt
   pub decoded : Decoded l
-  pub starts : Fourteen t decoded.types tr Pass
+  pub starts : Fourteen t decoded.types tr (Ok tt)
 
 -- a run is refused: by the judge; by the trace's 1 to 6; by 14; by 15 for the values' buffer z, or for the messages' buffer y
 pub data RunRefused (t l tr z y : List ℕ) : Refusal → Type 0 where
-  not_accepted : {x : Refusal} → Judged t l (Refuse x) → RunRefused t l tr z y x
-  trace_faulty : {x : Refusal} → Judged t l Pass → least (trace_rungs tr) ≡ Refuse x → RunRefused t l tr z y x
-  start_lacks : {x : Refusal} → Judged t l Pass → least (trace_rungs tr) ≡ Pass → (d : Decoded l) → Fourteen t d.types tr (Refuse x) → RunRefused t l tr z y x
+  not_accepted : {x : Refusal} → Judged t l (Err x) → RunRefused t l tr z y x
+  trace_faulty : {x : Refusal} → Judged t l (Ok tt) → least (trace_rungs tr) ≡ Err x → RunRefused t l tr z y x
+  start_lacks : {x : Refusal} → Judged t l (Ok tt) → least (trace_rungs tr) ≡ Ok tt → (d : Decoded l) → Fourteen t d.types tr (Err x) → RunRefused t l tr z y x
   values_short : Sound t l tr → length z < value_need l tr → RunRefused t l tr z y (refusal 15 3 (value_need l tr))
   messages_short : Sound t l tr → value_need l tr ≤ length z → length y < message_need l → RunRefused t l tr z y (refusal 15 3 (message_need l))
 
@@ -46,14 +44,10 @@ pub record Runnable (t l tr z y : List ℕ) : Type 0 where
 
 -- all the tests before a run
 abbrev pub RunChecked : List ℕ → List ℕ → List ℕ → List ℕ → List ℕ → Check → Type 0
-RunChecked t l tr z y Pass = Runnable t l tr z y
-RunChecked t l tr z y (Refuse x) = RunRefused t l tr z y x
-
--- the answer of a refused run has zeros
-abbrev pub no_run : Ran
-no_run = record { ending = 0; place = 0; used = 0; logged = 0; count = 0 }
+RunChecked t l tr z y (Ok tt) = Runnable t l tr z y
+RunChecked t l tr z y (Err x) = RunRefused t l tr z y x
 
 -- the answer: a refusal leaves both buffers, z and y, as they were; else answer and buffers say how the meaning layer's run went
-pub data RunAnswered (t l tr z y : List ℕ) : List ℕ → List ℕ → Check → Ran → Type 0 where
-  refused : {x : Refusal} → RunRefused t l tr z y x → RunAnswered t l tr z y z y (Refuse x) no_run
-  ran : {v o : List ℕ} {r : Ran} (s : Runnable t l tr z y) → Told tr z v y o (run_of l tr s.sound.decoded.types) r → RunAnswered t l tr z y v o Pass r
+pub data RunAnswered (t l tr z y : List ℕ) : List ℕ → List ℕ → Result Ran Refusal → Type 0 where
+  refused : {x : Refusal} → RunRefused t l tr z y x → RunAnswered t l tr z y z y (Err x)
+  ran : {v o : List ℕ} {r : Ran} (s : Runnable t l tr z y) → Told tr z v y o (run_of l tr s.sound.decoded.types) r → RunAnswered t l tr z y v o (Ok r)

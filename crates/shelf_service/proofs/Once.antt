@@ -6,12 +6,12 @@ use native.Mathlib.Omega.{arith}
 use lib.ListN.{length, take, drop, get_or}
 use lib.Seq.{get_or-take, get_or-drop, ext_get_or}
 use Rattle.answers.specs.declared.Refusal.{Refusal}
-use Rattle.answers.specs.declared.Check.{Check}
-use Rattle.answers.specs.declared.Check.TheVariants.{Pass, Refuse}
 use Rattle.buffers.specs.Over.{over}
 use Rattle.type_service.proofs.ServiceLaws.{not_both, refused_once}
 use Rattle.judge_service.proofs.Exact.{judged_once}
 use Rattle.shelf_service.specs.Shelf.{verdict_bytes, IsVerdict, Verdicts, ShelfChecked, too_many, not_added_up, too_short, in_order, ShelfAnswered, table_refused, shelf_refused, shelf_judged}
+use Rattle.std.proofs.Common.{Result, Ok, Err}
+use Rattle.answers.specs.Ladder.{Check}
 
 -- ── The verdicts ──
 
@@ -55,19 +55,19 @@ checked_once lists lengths room a b (in_order h e l) (in_order k f m) = refl
 -- ── The answer ──
 
 -- passed and refused are two
-apart : {C : Type 0} {x : Refusal} → Pass ≡ Refuse x → C
+apart : {C : Type 0} {x : Refusal} → ◌≡◌ {A = Check} (Ok tt) (Err x) → C
 apart e = let y : ◌≡◌ {A = ℕ} 0 1 = cc in absurd (omega arith)
 
 -- two answers, with two contents of the buffer, that both meet the promise are equal
-pub shelf_answered_once : (t lists lengths z o p : List ℕ) (a b : Check) (m n : ℕ) → ShelfAnswered t lists lengths z o a m → ShelfAnswered t lists lengths z p b n
-    → (o ≡ p) × (a ≡ b) × (m ≡ n)
-shelf_answered_once t lists lengths z o p a b m n (table_refused r) (table_refused q) = (refl, ap Refuse (refused_once t _ _ r q), refl)
-shelf_answered_once t lists lengths z o p a b m n (table_refused r) (shelf_refused w c) = absurd (not_both t _ _ w r)
-shelf_answered_once t lists lengths z o p a b m n (table_refused r) (shelf_judged w c v) = absurd (not_both t _ _ w r)
-shelf_answered_once t lists lengths z o p a b m n (shelf_refused w c) (table_refused r) = absurd (not_both t _ _ w r)
-shelf_answered_once t lists lengths z o p a b m n (shelf_refused w c) (shelf_refused u d) = (refl, checked_once lists lengths (length z) _ _ c d, refl)
-shelf_answered_once t lists lengths z o p a b m n (shelf_refused w c) (shelf_judged u d v) = apart (checked_once lists lengths (length z) _ _ d c)
-shelf_answered_once t lists lengths z o p a b m n (shelf_judged w c v) (table_refused r) = absurd (not_both t _ _ w r)
-shelf_answered_once t lists lengths z o p a b m n (shelf_judged w c v) (shelf_refused u d) = apart (checked_once lists lengths (length z) _ _ c d)
-shelf_answered_once t lists lengths z o p a b m n (shelf_judged {v = v} w c k) (shelf_judged {v = v'} u d j) =
-    let e : v ≡ v' = verdicts_once t lists lengths (length lengths) v v' k j in (ap (λ (l : List ℕ). over l z) e, refl, ap (λ (l : List ℕ). length l) e)
+pub shelf_answered_once : (t lists lengths z o p : List ℕ) (a b : Result ℕ Refusal) → ShelfAnswered t lists lengths z o a → ShelfAnswered t lists lengths z p b → (o ≡ p) × (a ≡ b)
+shelf_answered_once t lists lengths z o p a b (table_refused r) (table_refused q) = (refl, ap Err (refused_once t _ _ r q))
+shelf_answered_once t lists lengths z o p a b (table_refused r) (shelf_refused w c) = absurd (not_both t _ _ w r)
+shelf_answered_once t lists lengths z o p a b (table_refused r) (shelf_judged w c v) = absurd (not_both t _ _ w r)
+shelf_answered_once t lists lengths z o p a b (shelf_refused w c) (table_refused r) = absurd (not_both t _ _ w r)
+shelf_answered_once t lists lengths z o p a b (shelf_refused {x = x} w c) (shelf_refused {x = y} u d) =
+    let e : ◌≡◌ {A = Check} (Err x) (Err y) = checked_once lists lengths (length z) _ _ c d in let f : x ≡ y = cc in (refl, ap Err f)
+shelf_answered_once t lists lengths z o p a b (shelf_refused w c) (shelf_judged u d v) = apart (checked_once lists lengths (length z) _ _ d c)
+shelf_answered_once t lists lengths z o p a b (shelf_judged w c v) (table_refused r) = absurd (not_both t _ _ w r)
+shelf_answered_once t lists lengths z o p a b (shelf_judged w c v) (shelf_refused u d) = apart (checked_once lists lengths (length z) _ _ c d)
+shelf_answered_once t lists lengths z o p a b (shelf_judged {v = v} w c k) (shelf_judged {v = v'} u d j) =
+    let e : v ≡ v' = verdicts_once t lists lengths (length lengths) v v' k j in (ap (λ (l : List ℕ). over l z) e, ap (λ (l : List ℕ). Ok (length l)) e)

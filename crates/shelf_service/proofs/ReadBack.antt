@@ -8,8 +8,6 @@ use lib.Seq.{take-append-le, drop-append-le, get_or-drop}
 use borrow.Author.Tests.{ne_eqb}
 use Rattle.base.specs.Bytes.{byte, word}
 use Rattle.answers.specs.declared.Refusal.{Refusal}
-use Rattle.answers.specs.declared.Check.{Check}
-use Rattle.answers.specs.declared.Check.TheVariants.{Pass, Refuse}
 use Rattle.entries.specs.Words.{Bytes}
 use Rattle.buffers.specs.Over.{over}
 use Rattle.calculus.specs.Figure2.{Env}
@@ -18,14 +16,16 @@ use Rattle.type_service.specs.Services.{IsWidest}
 use Rattle.judge_service.specs.Judged.{Judged, Fits}
 use Rattle.judge_service.proofs.Places.{refusal_fits}
 use Rattle.shelf_service.specs.Shelf.{total, list_at, verdict_bytes, verdict_read, IsVerdict, ShelfAnswered, table_refused, shelf_refused, shelf_judged}
+use Rattle.std.proofs.Common.{Result, Ok, Err}
+use Rattle.answers.specs.Ladder.{Check}
 
 -- ── One verdict ──
 
 -- a verdict that fits its four bytes is read off them
-read_back : (r : Check) → ((x : Refusal) → r ≡ Refuse x → Fits x) → verdict_read (verdict_bytes r) ≡ r
+read_back : (r : Check) → ((x : Refusal) → r ≡ Err x → Fits x) → verdict_read (verdict_bytes r) ≡ r
 unfolding verdict_read verdict_bytes byte word
-read_back Pass f = refl
-read_back (Refuse x) f =
+read_back (Ok tt) f = refl
+read_back (Err x) f =
     let (n, p) = f x refl in
     let e : x.place / 256 * 256 + x.place % 256 ≡ x.place = omega arith in
     rw (ne_eqb x.number 0 (λ q. omega arith), e)
@@ -50,7 +50,7 @@ list_bytes_lem lists lengths i h =
     take_bytes (get_or lengths i 0) (drop at lists) (λ q. rw (get_or-drop at lists q 0) (h (at + q)))
 
 -- after a shelf that was not refused: what is read at 4i of the lent buffer is what judging list i by itself gives
-pub shelf_read : (t lists lengths z o : List ℕ) (r : Check) (n : ℕ) → Bytes lists → ShelfAnswered t lists lengths z o r n → r ≡ Pass
+pub shelf_read : (t lists lengths z o : List ℕ) (r : Result ℕ Refusal) (n : ℕ) → Bytes lists → ShelfAnswered t lists lengths z o r → r ≡ Ok n
     → (i : ℕ) → i < length lengths → Judged t (list_at lists lengths i) (verdict_read (take 4 (drop (4 * i) o)))
 shelf_read t lists lengths z o r n h (table_refused q) e i l = let y : ◌≡◌ {A = ℕ} 0 1 = cc in absurd (omega arith)
 shelf_read t lists lengths z o r n h (shelf_refused w c) e i l = let y : ◌≡◌ {A = ℕ} 0 1 = cc in absurd (omega arith)

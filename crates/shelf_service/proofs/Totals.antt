@@ -17,9 +17,9 @@ total_append [] l = omega arith
 total_append (n ∷ k) l = let q = total_append k l in omega arith
 
 -- nothing is added up yet
-pub total_none : (ns : List ℕ) → total (take 0 ns) ≡ 0
+pub total_none : total [] ≡ 0
 unfolding total
-total_none ns = refl
+total_none = refl
 
 -- one length more
 pub total_more : (ns : List ℕ) (i : ℕ) → i < length ns → total (take (i + 1) ns) ≡ total (take i ns) + get_or ns i 0
@@ -44,7 +44,7 @@ total_all ns i h = ap total (take_all i ns h)
 
 module _ (ns : List ℕ) (i bytes left : ℕ) (e : left + total (take i ns) ≡ bytes) where
   -- a length is longer
-  pub too_long : i < length ns → left < get_or ns i 0 → false ≡ eqb (total ns) bytes
+  pub too_long : i < length ns → ¬ (get_or ns i 0 ≤ left) → false ≡ eqb (total ns) bytes
   too_long h l = sym (ne_eqb (total ns) bytes (λ q. omega (arith, total_among ns i h)))
 
   -- or it is taken
@@ -58,3 +58,6 @@ module _ (ns : List ℕ) (i bytes left : ℕ) (e : left + total (take i ns) ≡ 
       go : (n : ℕ) → n + total ns ≡ bytes → eqb n 0 ≡ eqb (total ns) bytes
       go zero q = eq-eqb 0 0 refl ∙ sym (eq-eqb (total ns) bytes (omega arith))
       go (suc n) q = ne_eqb (suc n) 0 (λ z. omega arith) ∙ sym (ne_eqb (total ns) bytes (λ z. omega arith))
+
+-- by which the lengths are taken one by one
+pub ruleset add_up_steps = (total_none, one_taken, nothing_left)

@@ -9,8 +9,6 @@ use lib.ListN.{length, take, drop, get_or, length-append, length-drop}
 use lib.Seq.{take-append-le, drop-append-le, drop_at, take-length}
 use borrow.Rule.Slice.PartMut.{put_mid}
 use Rattle.answers.specs.declared.Refusal.{Refusal}
-use Rattle.answers.specs.declared.Check.{Check}
-use Rattle.answers.specs.declared.Check.TheVariants.{Pass, Refuse}
 use Rattle.entries.specs.Words.{Bytes}
 use Rattle.buffers.specs.Over.{over, over_if}
 use Rattle.buffers.proofs.Parts.{part_length}
@@ -23,17 +21,19 @@ use Rattle.judge_service.specs.Judged.{TypedJudged}
 use Rattle.judge_service.proofs.Places.{refusal_fits}
 use Rattle.shelf_service.specs.Shelf.{total, list_at, verdict_bytes, IsVerdict, Verdicts, VerdictPut, ListJudged, ListsJudged}
 use Rattle.shelf_service.proofs.Totals.{total_none, total_more, total_among}
+use Rattle.std.proofs.Common.{Ok, Err}
+use Rattle.answers.specs.Ladder.{Check}
 
 -- ── One verdict ──
 
 module _ (r : Check) (z o : List ℕ) where
   -- accepted
-  pub put_zeros : r ≡ Pass → o ≡ over_if (0 ∷ 0 ∷ 0 ∷ 0 ∷ []) z → VerdictPut r z o
+  pub put_zeros : r ≡ Ok tt → o ≡ over_if (0 ∷ 0 ∷ 0 ∷ 0 ∷ []) z → VerdictPut r z o
   unfolding verdict_bytes
   put_zeros e q = record { wrote = λ f l. rw e (q ∙ over_fits (0 ∷ 0 ∷ 0 ∷ 0 ∷ []) z l) }
 
   -- refused: a place below 65,536 is its two bytes
-  pub put_refusal : (x : Refusal) → r ≡ Refuse x → o ≡ over_if (x.number ∷ x.file ∷ x.place / 256 % 256 ∷ x.place % 256 ∷ []) z → VerdictPut r z o
+  pub put_refusal : (x : Refusal) → r ≡ Err x → o ≡ over_if (x.number ∷ x.file ∷ x.place / 256 % 256 ∷ x.place % 256 ∷ []) z → VerdictPut r z o
   unfolding verdict_bytes
   put_refusal x e q = record {
     wrote = λ f l.
@@ -44,8 +44,8 @@ module _ (r : Check) (z o : List ℕ) where
 
 verdict_four : (r : Check) → length (verdict_bytes r) ≡ 4
 unfolding verdict_bytes
-verdict_four Pass = refl
-verdict_four (Refuse x) = refl
+verdict_four (Ok tt) = refl
+verdict_four (Err x) = refl
 
 -- a list is judged, and its verdict written
 pub one_judged : (t w l z o : List ℕ) (r : Check) → Bytes l → TypedJudged t w l r → VerdictPut r z o → ListJudged t w l z o
@@ -93,7 +93,7 @@ pub record Judging (t w lists lengths : List ℕ) (i at : ℕ) (z o : List ℕ) 
   pub wrote : (Γ : Env signature1) → Holds w Γ → IsWidest t Γ → (v : List ℕ) × Verdicts t lists lengths i v × (o ≡ over v z)
 
 pub judging_none : (t w lists lengths z : List ℕ) → Judging t w lists lengths 0 0 z z
-judging_none t w lists lengths z = record { passed = sym (total_none lengths); kept = refl; wrote = λ Γ h k. ([], verdicts_none t lists lengths, over_none z) }
+judging_none t w lists lengths z = record { passed = sym total_none; kept = refl; wrote = λ Γ h k. ([], verdicts_none t lists lengths, over_none z) }
 
 module _ (t w lists lengths : List ℕ) (i at : ℕ) (z xs : List ℕ) (p : Judging t w lists lengths i at z xs) (l : i < length lengths) where
   -- the next list's bytes end inside the lists'

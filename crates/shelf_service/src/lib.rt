@@ -5,23 +5,20 @@
 ghost use Rattle.std.specs.Prelude.{◌≡◌, ◌*◌, ◌≤◌, eqb, length};
 ghost use Rattle.shelf_service.specs.Shelf.{total, ShelfChecked, VerdictPut, ListJudged, ListsJudged, ShelfAnswered};
 
-use answers::Check;
-use type_service::Written;
+use answers::{Check, File, Refusal};
 
 // Whether the lengths add up to so many bytes. Each is taken from what is left of them; the first that is longer ends it, so that no
 // sum wraps.
+#[tactic(auto, using(crate::proofs::Totals::add_up_steps))]
 fn add_up(lengths: &[u64], bytes: usize) -> bool
     ensures { result ≡ eqb (total lengths.now) bytes }
 {
     let mut left = bytes as u64;
-    let mut i = 0;
-    while i < lengths.len() {
-        let n = lengths[i];
-        if left < n {
+    for &n in lengths {
+        let Some(rest) = left.checked_sub(n) else {
             return false;
-        }
-        left -= n;
-        i += 1;
+        };
+        left = rest;
     }
     left == 0
 }
@@ -32,25 +29,25 @@ fn check_shelf(lists: &[u8], lengths: &[u64], verdicts: &[u8]) -> Check
 {
     let n = lengths.len();
     if 64 < n {
-        return answers::refuse(3, codes::LIST, 0);
+        return answers::refuse(3, File::List, 0);
     }
     if add_up(lengths, lists.len()) {
         return type_service::check_room(verdicts, 4 * n);
     }
-    answers::refuse(4, codes::LIST, 0)
+    answers::refuse(4, File::List, 0)
 }
 
 // Writes a verdict: number, file, and the place as two bytes, high first; four zeros where the list is accepted.
 fn put_verdict(out: &mut [u8], verdict: Check)
     ensures { VerdictPut verdict out.old out.new }
 {
-    let Check::Refuse(x) = verdict else {
-        buffers::put_four(out, 0, 0, 0, 0);
+    let Err(x) = verdict else {
+        buffers::copy(out, &[0, 0, 0, 0]);
         return;
     };
     let high = (x.place / 256 % 256) as u8;
     let low = (x.place % 256) as u8;
-    buffers::put_four(out, x.number, x.file, high, low);
+    buffers::copy(out, &[x.number, x.file, high, low]);
 }
 
 // Judges one list beside the typed table, and writes the verdict.
@@ -67,32 +64,25 @@ fn judge_each(table: &[u8], work: &[u8], lists: &[u8], lengths: &[u64], verdicts
     ensures { ListsJudged table.now work.now lists.now lengths.now verdicts.old verdicts.new }
 {
     let mut at = 0;
-    let mut i = 0;
-    while i < lengths.len() {
-        let end = at + lengths[i] as usize;
-        let to = 4 * i;
-        judge_one(table, work, &lists[at..end], &mut verdicts[to..]);
+    for (i, &n) in lengths.iter().enumerate() {
+        let end = at + n as usize;
+        judge_one(table, work, &lists[at..end], &mut verdicts[4 * i..]);
         at = end;
-        i += 1;
     }
 }
 
-// The table's 1 to 10, then 3, 4 and 15 of the shelf, and only then the lists.
-pub fn judge_shelf(table: &[u8], lists: &[u8], lengths: &[u64], verdicts: &mut [u8]) -> Written
-    ensures { ShelfAnswered table.now lists.now lengths.now verdicts.old verdicts.new result.check result.bytes }
+// The table's 1 to 10, then 3, 4 and 15 of the shelf, and only then the lists: a refusal, or the number of bytes written.
+pub fn judge_shelf(
+    table: &[u8],
+    lists: &[u8],
+    lengths: &[u64],
+    verdicts: &mut [u8],
+) -> Result<usize, Refusal>
+    ensures { ShelfAnswered table.now lists.now lengths.now verdicts.old verdicts.new result }
 {
     let mut work = [0u8; 12384];
-    let a = type_service::type_slots(table, &mut work);
-    let Check::Pass = a else {
-        return Written { check: a, bytes: 0 };
-    };
-    let b = check_shelf(lists, lengths, verdicts);
-    let Check::Pass = b else {
-        return Written { check: b, bytes: 0 };
-    };
+    type_service::type_slots(table, &mut work)?;
+    check_shelf(lists, lengths, verdicts)?;
     judge_each(table, &work, lists, lengths, verdicts);
-    Written {
-        check: Check::Pass,
-        bytes: 4 * lengths.len(),
-    }
+    Ok(4 * lengths.len())
 }

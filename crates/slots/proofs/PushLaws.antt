@@ -1,24 +1,25 @@
 -- The walk of `push` along a type's bytes: one law for each turn and each way out. Assumes nothing.
 use mathlib.Core.Path.{◌≡◌, refl, sym, ap, ◌∙◌}
-use mathlib.Core.Bool.{Bool, true, false, decide}
-use mathlib.Core.List.{List, [], ◌∷◌, ◌++◌}
+use mathlib.Core.Bool.{decide}
+use mathlib.Core.List.{List, [], ◌∷◌, ◌++◌, reverse}
 use mathlib.Core.Option.{Option, none, some, map, bind}
-use Prim.Native.Nat.{ℕ, ◌+◌, ◌-◌, ◌≤◌, ◌<◌}
+use Prim.Native.Nat.{ℕ, ◌+◌, ◌≤◌, ◌<◌}
 use native.Mathlib.Omega.{arith}
 use lib.ListN.{length, drop, get_or, length-append, length-drop}
 use Rattle.types.specs.Types.{Message, Basic, Cipher, Pair}
 use Rattle.types.specs.Prefix.{encoded}
 use Rattle.types.specs.Version1.{T, bytes, shared, code1}
 use Rattle.type_bytes.specs.Ends.{Past}
-use Rattle.type_bytes.specs.Pending.{stacked}
 use Rattle.type_bytes.proofs.EndLaws.{tag, bytes_some, no_type, head_is, in_pair, in_cipher, as_message, as_pair, as_cipher}
-use Rattle.type_bytes.proofs.PendingLaws.{next_first, see_length}
 use Rattle.calculus.specs.Signature.{pairing, seal}
 use Rattle.calculus.specs.Terms.{build2}
 use Rattle.calculus.specs.Tables.{Entry, leaf_entry, kind_entry}
 use Rattle.calculus.specs.Figure2.{Env, extend}
 use Rattle.calculus.specs.Inference.{by_entry, push}
 use Rattle.calculus.specs.Version1.{signature1, encryption}
+use Rattle.std.proofs.Common.{Some, None}
+use Rattle.std.proofs.lemmas.List.{reverse-append, length-reverse}
+use Rattle.slots.specs.Fit.{Fit}
 use Rattle.slots.specs.Terms.{code_at, part_at, entry, InRange}
 use Rattle.slots.specs.Slots.{Holds, Left, meet_in, Met}
 use Rattle.slots.specs.Push.{Pushed}
@@ -153,24 +154,23 @@ module _ (w₀ s : List ℕ) (t : ℕ) (y : List ℕ) (p : ℕ) where
     };
   }
 
-  pub walk_done : (w : List ℕ) (at : ℕ) (a : List ℕ) (d : ℕ) → d ≡ 0 → Walked w₀ s t y p w at (stacked a d) → Pushed w₀ s t y p w true
-  unfolding Goes stacked
-  walk_done w at a d z g =
-      let k : Walked w₀ s t y p w at (stacked a 0) = rw z at g in
-      record { left = λ Γ b l r h e n. let x = k.rest Γ b l r h e n in (x.here, x.goes.1, x.holds) }
+  pub walk_done : (w : List ℕ) (at : ℕ) (xs : List ℕ) → length xs ≤ 0 → Walked w₀ s t y p w at (reverse xs) → Pushed w₀ s t y p w (Some tt)
+  unfolding Goes
+  walk_done w at [] z g = record { left = λ Γ b l r h e n. let x = g.rest Γ b l r h e n in (x.here, x.goes.1, x.holds) }
+  walk_done w at (u ∷ xs) z g = absurd (omega arith)
 
 -- ── A term is given its type ──
 
--- term u is the next of d pending ones; us are the others
-module _ (w₀ s : List ℕ) (t : ℕ) (y : List ℕ) (p : ℕ) (w : List ℕ) (at : ℕ) (a : List ℕ) (d : ℕ) (some_left : 0 < d) (all : Walked w₀ s t y p w at (stacked a d)) where
-  abbrev u : ℕ
-  u = get_or a (d - 1) 0
+last_first : (xs ys : List ℕ) (u : ℕ) → xs ≡ ys ++ (u ∷ []) → reverse xs ≡ u ∷ reverse ys
+last_first xs ys u e = rw e (reverse-append ys (u ∷ []))
 
+-- of the pending terms xs the last one is u, and is popped; ys are left
+module _ {w₀ s : List ℕ} {t : ℕ} {y : List ℕ} {p : ℕ} {w : List ℕ} {at : ℕ} {xs : List ℕ} (u : ℕ) (ys : List ℕ) (popped : xs ≡ ys ++ (u ∷ [])) (all : Walked w₀ s t y p w at (reverse xs)) where
   abbrev us : List ℕ
-  us = stacked a (d - 1)
+  us = reverse ys
 
   g : Walked w₀ s t y p w at (u ∷ us)
-  g = rw (next_first a d some_left) at all
+  g = rw (← last_first xs ys u popped) all
 
   -- what is known of the next term's type: the slots' environment, and that giving it to the term comes first
   record Next (l : List ℕ) (o : Result) : Type 0 where
@@ -192,11 +192,11 @@ module _ (w₀ s : List ℕ) (t : ℕ) (y : List ℕ) (p : ℕ) (w : List ℕ) (
       record { here = x.here; holds = x.holds; few = omega (arith, x.few); type = c; others = m; then = G; starts = i; comes = j; on = z }
 
   -- there is no type, or its bytes are too many: any answer will do
-  stops : (o : List ℕ) (r : Bool) → ((l : List ℕ) (x : Result) → Next l x → ⊥) → Pushed w₀ s t y p o r
+  stops : (o : List ℕ) (r : Fit) → ((l : List ℕ) (x : Result) → Next l x → ⊥) → Pushed w₀ s t y p o r
   stops o r f = record { left = λ Γ b l i h e k. absurd (f l (pushed s b t Γ) (next Γ b l i h e k)) }
 
   -- the term can't have its type
-  fails : (o : List ℕ) → ((l : List ℕ) (x : Result) → InRange s → (n : Next l x) → pushed s n.type u n.here ≡ none) → Pushed w₀ s t y p o false
+  fails : (o : List ℕ) → ((l : List ℕ) (x : Result) → InRange s → (n : Next l x) → pushed s n.type u n.here ≡ none) → Pushed w₀ s t y p o None
   fails o f = record {
     left = λ Γ b l i h e k.
         let n = next Γ b l i h e k in
@@ -204,7 +204,7 @@ module _ (w₀ s : List ℕ) (t : ℕ) (y : List ℕ) (p : ℕ) (w : List ℕ) (
   }
 
   -- it has it: the walk goes on behind the type
-  goes_on : (o : List ℕ) (m : ℕ) → Past y at m → ((l : List ℕ) (x : Result) → InRange s → (n : Next l x) → (Θ : Env signature1) × (pushed s n.type u n.here ≡ some Θ) × Holds o Θ) → Walked w₀ s t y p o m us
+  goes_on : (o : List ℕ) (m : ℕ) → Past y at m → ((l : List ℕ) (x : Result) → InRange s → (n : Next l x) → (Θ : Env signature1) × (pushed s n.type u n.here ≡ some Θ) × Holds o Θ) → Walked w₀ s t y p o m (reverse ys)
   goes_on o m past f = record {
     rest = λ Γ b l i h e k.
         let n = next Γ b l i h e k in
@@ -218,30 +218,31 @@ module _ (w₀ s : List ℕ) (t : ℕ) (y : List ℕ) (p : ℕ) (w : List ℕ) (
         };
   }
 
-  pub walk_past : (o : List ℕ) (r : Bool) → length y ≤ at → Pushed w₀ s t y p o r
+  pub walk_past : (o : List ℕ) (r : Fit) → length y ≤ at → Pushed w₀ s t y p o r
   walk_past o r h = stops o r (λ l x n. no_type y at n.type n.others h n.starts)
 
-  module _ (h : at < length y) where
-    tag_is : {l : List ℕ} {x : Result} (n : Next l x) → get_or y at 0 ≡ tag n.type
-    tag_is n = head_is y at h n.type n.others n.starts
+  -- byte b of the types is read
+  module _ {b : ℕ} (read : (at < length y) × (b ≡ get_or y at 0)) where
+    tag_is : {l : List ℕ} {x : Result} (n : Next l x) → b ≡ tag n.type
+    tag_is n = read.1 ∙ head_is y at read.0 n.type n.others n.starts
 
-    pub walk_message : (m : ℕ) → get_or y at 0 ≡ 0 → Past y at m → Walked w₀ s t y p w m us
+    pub walk_message : (m : ℕ) → b ≡ 0 → Past y at m → Walked w₀ s t y p w m (reverse ys)
     walk_message m z past = goes_on w m past (λ l x i n. (n.here, at_message meet_in (entry s) u n.here n.type (as_message n.type (sym z ∙ tag_is n)), n.holds))
 
-    module _ (nz : ¬ (get_or y at 0 ≡ 0)) (k i : ℕ) (hk : k ≡ code_at s u) (hi : i ≡ part_at s u 0) where
+    module _ (nz : ¬ (b ≡ 0)) {k i : ℕ} (hk : k ≡ code_at s u) (hi : i ≡ part_at s u 0) where
       module _ (z : k ≡ 0) (o : List ℕ) where
-        met : (r : Bool) → Met w i y at o r → (l : List ℕ) (x : Result) → InRange s → (n : Next l x) → Left (pushed s n.type u n.here) o r
+        met : (r : Fit) → Met w i y at o r → (l : List ℕ) (x : Result) → InRange s → (n : Next l x) → Left (pushed s n.type u n.here) o r
         unfolding tag
         met r v l x ir n =
             let e : entry s u ≡ leaf_entry i = rw hi (entry_symbol s u (sym hk ∙ z)) in
             let c : ¬ (n.type ≡ Message) = λ q. nz (tag_is n ∙ ap tag q) in
             rw (at_symbol meet_in (entry s) u n.here n.type i e c) (v.left n.here n.type n.others (rw hi (ir.slotted u (sym hk ∙ z))) n.holds n.starts)
 
-        pub walk_apart : (r : Bool) → r ≡ false → Met w i y at o r → Pushed w₀ s t y p o false
-        walk_apart r e v = fails o (met false (rw e at v))
+        pub walk_apart : Met w i y at o None → Pushed w₀ s t y p o None
+        walk_apart v = fails o (met None v)
 
-        pub walk_met : (m : ℕ) (r : Bool) → r ≡ true → Met w i y at o r → Past y at m → Walked w₀ s t y p o m us
-        walk_met m r e v past = goes_on o m past (met true (rw e at v))
+        pub walk_met : (m : ℕ) → Met w i y at o (Some tt) → Past y at m → Walked w₀ s t y p o m (reverse ys)
+        walk_met m v past = goes_on o m past (met (Some tt) v)
 
       pair_is : k ≡ 1 → (j : ℕ) → j ≡ part_at s u 1 → entry s u ≡ kind_entry (build2 pairing i j)
       pair_is z j hj = rw (hi, hj) (entry_pair s u (sym hk ∙ z))
@@ -250,18 +251,18 @@ module _ (w₀ s : List ℕ) (t : ℕ) (y : List ℕ) (p : ℕ) (w : List ℕ) (
       seal_is c f r = rw hi (entry_seal s u (omega (arith, hk, c, f, r.known u)))
 
       module _ (z : k ≡ 1) where
-        pub walk_not_pair : (o : List ℕ) → ¬ (get_or y at 0 ≡ 4) → Pushed w₀ s t y p o false
+        pub walk_not_pair : (o : List ℕ) → ¬ (b ≡ 4) → Pushed w₀ s t y p o None
         walk_not_pair o f = fails o (λ l x r n. not_pair meet_in (entry s) u n.here n.type i _ (pair_is z (part_at s u 1) refl) (λ q. nz (tag_is n ∙ q)) (λ q. f (tag_is n ∙ q)))
 
-        module _ (four : get_or y at 0 ≡ 4) where
+        module _ (four : b ≡ 4) where
           -- more than 130 terms are never pending
-          pub walk_full : (o : List ℕ) (r : Bool) → 130 ≤ d → Pushed w₀ s t y p o r
-          walk_full o r c = stops o r (λ l x n.
-              omega (arith, n.few, pair_long n.type (sym four ∙ tag_is n), ap length n.starts ∙ length-append (bytes n.type) n.others, goes_length s us n.others l n.here (n.then n.here) (n.on n.here), see_length a (d - 1)))
+          pub walk_full : (o : List ℕ) (r : Fit) (j : ℕ) (zs : List ℕ) → zs ≡ ys ++ (j ∷ []) → 130 ≤ length zs → Pushed w₀ s t y p o r
+          walk_full o r j zs q c = stops o r (λ l x n.
+              omega (arith, n.few, pair_long n.type (sym four ∙ tag_is n), ap length n.starts ∙ length-append (bytes n.type) n.others, goes_length s us n.others l n.here (n.then n.here) (n.on n.here), length-reverse ys, ap length q ∙ length-append ys (j ∷ [])))
 
-          pub walk_pair : (j : ℕ) → j ≡ part_at s u 1 → Walked w₀ s t y p w (at + 1) (i ∷ j ∷ us)
+          pair_on : (j : ℕ) → j ≡ part_at s u 1 → Walked w₀ s t y p w (at + 1) (i ∷ j ∷ us)
           unfolding Goes
-          walk_pair j hj = record {
+          pair_on j hj = record {
             rest = λ Γ b l r v e c.
                 let n = next Γ b l r v e c in
                 let (C, D, q) = as_pair n.type (sym four ∙ tag_is n) in
@@ -269,17 +270,21 @@ module _ (w₀ s : List ℕ) (t : ℕ) (y : List ℕ) (p : ℕ) (w : List ℕ) (
                   here = n.here;
                   holds = n.holds;
                   few = omega (arith, n.few, length-drop at y, length-drop (at + 1) y);
-                  goes = (C, bytes D ++ n.others, λ Ξ. bind (pushed s D j Ξ) n.then, pair_starts y at h n.type C D n.others q n.starts, pair_comes s u i j n.type C D n.here n.then q (pair_is z j hj) n.comes, λ Ξ. (D, n.others, n.then, refl, refl, n.on));
+                  goes = (C, bytes D ++ n.others, λ Ξ. bind (pushed s D j Ξ) n.then, pair_starts y at read.0 n.type C D n.others q n.starts, pair_comes s u i j n.type C D n.here n.then q (pair_is z j hj) n.comes, λ Ξ. (D, n.others, n.then, refl, refl, n.on));
                 };
           }
 
+          -- its parts are pushed, the left one last
+          pub walk_pair : (j : ℕ) (zs vs : List ℕ) → j ≡ part_at s u 1 → zs ≡ ys ++ (j ∷ []) → vs ≡ zs ++ (i ∷ []) → Walked w₀ s t y p w (at + 1) (reverse vs)
+          walk_pair j zs vs hj q r = rw (last_first vs zs i r, last_first zs ys j q) (pair_on j hj)
+
       module _ (z : ¬ (k ≡ 0)) (z' : ¬ (k ≡ 1)) where
-        pub walk_not_seal : (o : List ℕ) → ¬ (get_or y at 0 ≡ 5) → Pushed w₀ s t y p o false
+        pub walk_not_seal : (o : List ℕ) → ¬ (b ≡ 5) → Pushed w₀ s t y p o None
         walk_not_seal o f = fails o (λ l x r n. not_seal meet_in (entry s) u n.here n.type i _ (seal_is z z' r) (λ q. nz (tag_is n ∙ q)) (λ q. f (tag_is n ∙ q)))
 
-        pub walk_seal : get_or y at 0 ≡ 5 → Walked w₀ s t y p w (at + 1) (i ∷ us)
+        seal_on : b ≡ 5 → Walked w₀ s t y p w (at + 1) (i ∷ us)
         unfolding Goes
-        walk_seal five = record {
+        seal_on five = record {
           rest = λ Γ b l r v e c.
               let n = next Γ b l r v e c in
               let (C, q) = as_cipher n.type (sym five ∙ tag_is n) in
@@ -287,6 +292,10 @@ module _ (w₀ s : List ℕ) (t : ℕ) (y : List ℕ) (p : ℕ) (w : List ℕ) (
                 here = n.here;
                 holds = n.holds;
                 few = omega (arith, n.few, length-drop at y, length-drop (at + 1) y);
-                goes = (C, n.others, n.then, seal_starts y at h n.type C n.others q n.starts, seal_comes s u i (part_at s u 1) n.type C n.here n.then q (seal_is z z' r) n.comes, n.on);
+                goes = (C, n.others, n.then, seal_starts y at read.0 n.type C n.others q n.starts, seal_comes s u i (part_at s u 1) n.type C n.here n.then q (seal_is z z' r) n.comes, n.on);
               };
         }
+
+        -- its inside is pushed
+        pub walk_seal : (vs : List ℕ) → b ≡ 5 → vs ≡ ys ++ (i ∷ []) → Walked w₀ s t y p w (at + 1) (reverse vs)
+        walk_seal vs five q = rw (last_first vs ys i q) (seal_on five)

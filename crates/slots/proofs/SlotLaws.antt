@@ -21,7 +21,7 @@ use Rattle.types.proofs.Version1Laws.{length1}
 use Rattle.buffers.specs.Over.{over, over_if}
 use Rattle.buffers.proofs.OverLaws.{over_fits}
 use Rattle.type_bytes.specs.Meets.{Meets}
-use Rattle.type_bytes.specs.declared.Lower.TheVariants.{Met as Low, Apart}
+use Rattle.std.proofs.Common.{Some, None}
 use Rattle.calculus.specs.Figure2.{Env, extend}
 use Rattle.calculus.specs.Version1.{signature1}
 use Rattle.calculus.proofs.Environments.{extend_same, extend_other}
@@ -66,7 +66,7 @@ fitting_some : (o : Option T) (c : T) → o ≡ some c → length (bytes c) ≤ 
 unfolding fitting
 fitting_some o c e h = rw (e, le-leb _ 129 h)
 
-pub met_past : (w o y : List ℕ) (s p at e : ℕ) → at ≡ s * 129 → e ≡ at + 129 → length w < e → Met w s y p o false
+pub met_past : (w o y : List ℕ) (s p at e : ℕ) → at ≡ s * 129 → e ≡ at + 129 → length w < e → Met w s y p o None
 met_past w o y s p at e ha he h = record { left = λ Γ a x l k i. absurd (omega (arith, k.size)) }
 
 -- what is lent of the array is slot s
@@ -76,7 +76,7 @@ here w s at e ha he Γ l k =
     rw (q, ha) (k.slot s l)
 
 module _ (w y : List ℕ) (s p at e : ℕ) (ha : at ≡ s * 129) (he : e ≡ at + 129) (hw : e ≤ length w) (z low : List ℕ) (hz : length z ≡ 129) where
-  pub met_apart : (o : List ℕ) → Meets (take (e - at) (drop at w)) 0 y p z low Apart → Met w s y p o false
+  pub met_apart : (o : List ℕ) → Meets (take (e - at) (drop at w)) 0 y p z low None → Met w s y p o None
   met_apart o m = record {
     left = λ Γ a x l k i.
         let h = here w s at e ha he Γ l k in
@@ -84,16 +84,16 @@ module _ (w y : List ℕ) (s p at e : ℕ) (ha : at ≡ s * 129) (he : e ≡ at 
         rw n;
   }
 
-  met_over : (n : ℕ) (ys : List ℕ) → Meets (take (e - at) (drop at w)) 0 y p z low (Low n) → ys ≡ over (take (n - 0) low) (take (e - at) (drop at w))
-      → Met w s y p (put_mid at (e - at) w ys) true
+  met_over : (n : ℕ) (ys : List ℕ) → Meets (take (e - at) (drop at w)) 0 y p z low (Some n) → ys ≡ over (take n low) (take (e - at) (drop at w))
+      → Met w s y p (put_mid at (e - at) w ys) (Some tt)
   unfolding over
   met_over n ys m q = record {
     left = λ Γ a x l k i.
         let h = here w s at e ha he Γ l k in
         let (c, f, g, j) = m.wrote (Γ s) a h.0 x h.1 i in
         let v : n ≤ length z = m.fits in
-        let d : n - 0 ≡ length (bytes c) = omega arith in
-        let u : take (n - 0) low ≡ bytes c = rw (j, d) (take-append_seam (bytes c) (drop (length (bytes c)) z)) in
+        let d : n ≡ length (bytes c) = g in
+        let u : take n low ≡ bytes c = rw (j, d) (take-append_seam (bytes c) (drop (length (bytes c)) z)) in
         (extend signature1 Γ s c, rw (fitting_some (meet types1 (Γ s) a) c f (omega arith)), holds Γ k c (rw u at q) (omega arith));
   }
     where
@@ -109,9 +109,9 @@ module _ (w y : List ℕ) (s p at e : ℕ) (ha : at ≡ s * 129) (he : e ≡ at 
           at_slot r l hy (yes f) = rw (← f, extend_same signature1 Γ s c) (drop (length (bytes c)) (take (e - at) (drop at w)), slot_same w ys s at e ha he hw hy ∙ j)
           at_slot r l hy (no f) = rw (extend_other signature1 Γ s r c f, slot_other w ys s at e ha he hw hy r f) (k.slot r l)
 
-  pub met_put : (n : ℕ) (ys : List ℕ) → Meets (take (e - at) (drop at w)) 0 y p z low (Low n) → ys ≡ over_if (take (n - 0) low) (take (e - at) (drop at w))
-      → Met w s y p (put_mid at (e - at) w ys) true
-  met_put n ys m q = met_over n ys m (q ∙ over_fits (take (n - 0) low) (take (e - at) (drop at w)) (simp (length-take, length-drop) (omega (arith, m.fits))))
+  pub met_put : (n : ℕ) (ys : List ℕ) → Meets (take (e - at) (drop at w)) 0 y p z low (Some n) → ys ≡ over_if (take n low) (take (e - at) (drop at w))
+      → Met w s y p (put_mid at (e - at) w ys) (Some tt)
+  met_put n ys m q = met_over n ys m (q ∙ over_fits (take n low) (take (e - at) (drop at w)) (simp (length-take, length-drop) (omega (arith, m.fits))))
 
 -- ── The start ──
 

@@ -1,5 +1,5 @@
 -- A flat array of 96 slots of 129 bytes, each with a symbol's type at its start. Assumes nothing: these are definitions.
-use Rattle.std.specs.Prelude.{◌≡◌, Bool, true, false, List, ◌++◌, ℕ, ◌+◌, ◌*◌, ◌<◌, leb, length, take, drop}
+use Rattle.std.specs.Prelude.{◌≡◌, Some, None, List, ◌++◌, ℕ, ◌+◌, ◌*◌, ◌<◌, leb, length, take, drop}
 use Rattle.std.proofs.Math.Option.{Option, none, some, map}
 use Rattle.base.specs.Pick.{pick}
 use Rattle.types.specs.Types.{meet}
@@ -8,6 +8,7 @@ use Rattle.calculus.specs.Figure2.{Env, extend}
 use Rattle.calculus.specs.Typing.{start}
 use Rattle.calculus.specs.Version1.{signature1}
 use Rattle.decoded.specs.Table.{table_of}
+use Rattle.slots.specs.Fit.{Fit}
 
 -- the bytes of slot x
 abbrev pub slot_of : List ℕ → ℕ → List ℕ
@@ -48,11 +49,11 @@ abbrev pub meet_in : T → T → Option T
 meet_in a b = fitting (meet types1 a b)
 
 -- the slots afterwards, and whether there is an environment
-abbrev pub Left : Option (Env signature1) → List ℕ → Bool → Type 0
-Left o w true = (Θ : Env signature1) × (o ≡ some Θ) × Holds w Θ
-Left o w false = o ≡ none
+abbrev pub Left : Option (Env signature1) → List ℕ → Fit → Type 0
+Left o w (Some u) = (Θ : Env signature1) × (o ≡ some Θ) × Holds w Θ
+Left o w None = o ≡ none
 
 -- slot x was met with the type at p of y
-pub record Met (w : List ℕ) (x : ℕ) (y : List ℕ) (p : ℕ) (o : List ℕ) (r : Bool) : Type 0 where
+pub record Met (w : List ℕ) (x : ℕ) (y : List ℕ) (p : ℕ) (o : List ℕ) (r : Fit) : Type 0 where
   pub left : (Γ : Env signature1) (a : T) (l : List ℕ) → x < 96 → Holds w Γ → ◌≡◌ {A = List ℕ} (drop p y) (bytes a ++ l)
       → Left (map (extend signature1 Γ x) (meet_in (Γ x) a)) o r

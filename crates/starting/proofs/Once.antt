@@ -6,9 +6,7 @@ use Prim.Native.Nat.{ℕ, zero, suc, ◌<◌}
 use native.Mathlib.Omega.{arith}
 use native.Mathlib.Decide.{dec_lt}
 use lib.ListN.{length, get_or}
-use Rattle.answers.specs.declared.Check.{Check}
-use Rattle.answers.specs.declared.Check.TheVariants.{Refuse}
-use Rattle.answers.specs.Ladder.{refusal}
+use Rattle.answers.specs.Ladder.{refusal, Check}
 use Rattle.entries.specs.Tiling.{listed}
 use Rattle.trace.specs.Layout.{startings, starting}
 use Rattle.types.specs.Types.{Ty}
@@ -22,6 +20,7 @@ use Rattle.decoded.specs.Values.{values_of}
 use Rattle.decoded.proofs.Listed.{listed_all_at}
 use Rattle.decoded.specs.Table.{free_of, free_count}
 use Rattle.starting.specs.Fourteen.{start_fits, Fourteen, starts, wrong_number, lacks}
+use Rattle.std.proofs.Common.{Err}
 
 -- each starting value has its type
 starts_each : {Γ : ℕ → Ty signature1.types} {es : List (Entry signature1 Atom)} {xs is : List ℕ} → Starts signature1 Γ es xs is
@@ -62,4 +61,4 @@ fourteen_once {t} {As} {tr} (wrong_number n) (wrong_number m) = refl
 fourteen_once {t} {As} {tr} (wrong_number n) (lacks m h f g) = absurd (n m)
 fourteen_once {t} {As} {tr} (lacks {i = i} n h f g) (starts m u) = absurd (not_both t As tr m u i h f)
 fourteen_once {t} {As} {tr} (lacks n h f g) (wrong_number m) = absurd (m n)
-fourteen_once {t} {As} {tr} (lacks {i = i} n h f g) (lacks {i = j} m k u w) = ap (λ (p : ℕ). Refuse (refusal 14 2 p)) (first_same t As tr i j f u g w)
+fourteen_once {t} {As} {tr} (lacks {i = i} n h f g) (lacks {i = j} m k u w) = ap (λ (p : ℕ). Err (refusal 14 2 p)) (first_same t As tr i j f u g w)

@@ -3,15 +3,13 @@ use mathlib.Core.Path.{◌≡◌, sym, ◌∙◌}
 use mathlib.Core.Bool.{Bool, true, false}
 use mathlib.Core.List.{List, [], ◌∷◌}
 use Prim.Native.Nat.{ℕ, suc, ◌+◌, ◌≤◌, ◌<◌, min}
-use native.Mathlib.Nat.{min-eq_left, min-eq_right, eq-or-lt_of_le}
+use native.Mathlib.Nat.{eq-or-lt_of_le}
 use mathlib.Core.Logic.{◌⊎◌, inl, inr}
 use native.Mathlib.Omega.{arith}
 use lib.ListN.{length, take, drop, get_or, length-drop}
 use lib.Seq.{take_all}
 use Rattle.base.specs.Bytes.{byte}
-use Rattle.answers.specs.Ladder.{refusal, least}
-use Rattle.answers.specs.declared.Check.{Check}
-use Rattle.answers.specs.declared.Check.TheVariants.{Pass, Refuse}
+use Rattle.answers.specs.Ladder.{refusal, least, Check}
 use Rattle.entries.specs.Tiling.{listed}
 use Rattle.entries.specs.Words.{Bytes}
 use Rattle.entries.proofs.Tiling.{listed_length}
@@ -39,11 +37,12 @@ use Rattle.visible.specs.Seen.{Seen}
 use Rattle.visible.proofs.WalkLaws.{seen_part}
 use Rattle.free_symbols.specs.Free.{Lists}
 use Rattle.starting.specs.Fourteen.{start_fits, starts, wrong_number, lacks, StartsChecked, StartSeen}
+use Rattle.std.proofs.Common.{Ok, Err}
 
 -- ── One starting value ──
 
 -- a checked trace has a whole header
-pub header_whole : (tr : List ℕ) → least (trace_rungs tr) ≡ Pass → 10 ≤ length tr
+pub header_whole : (tr : List ℕ) → least (trace_rungs tr) ≡ Ok tt → 10 ≤ length tr
 header_whole tr e = let l = ((trace_passes tr).0 e).framed.whole_length in omega arith
 
 pub seen_short : (l tr : List ℕ) (x i : ℕ) (r : Bool) → length tr < 10 → StartSeen l tr x i r
@@ -77,7 +76,7 @@ free_below t i h =
 
 -- the first i starting values have their types
 pub record SoFar (t l tr : List ℕ) (i : ℕ) : Type 0 where
-  pub fit : least (table_rungs t) ≡ Pass → least (trace_rungs tr) ≡ Pass → (d : Decoded l) → symbols l ≡ TableLayout.symbols t
+  pub fit : least (table_rungs t) ≡ Ok tt → least (trace_rungs tr) ≡ Ok tt → (d : Decoded l) → symbols l ≡ TableLayout.symbols t
       → (j : ℕ) → j < i → start_fits d.types tr (get_or (free_of t) j 0) j ≡ true
 
 pub none_yet : (t l tr : List ℕ) → SoFar t l tr 0
@@ -85,29 +84,16 @@ none_yet t l tr = record { fit = λ e f d q j h. absurd (omega arith) }
 
 -- the array begins with the free symbols
 abbrev pub FreeIn : List ℕ → List ℕ → ℕ → Type 0
-FreeIn t array n = least (table_rungs t) ≡ Pass → Lists (free_of t) array n
+FreeIn t array n = least (table_rungs t) ≡ Ok tt → Lists (free_of t) array n
 
 module _ (t l tr array : List ℕ) (n : ℕ) (f : FreeIn t array n) where
   -- the numbers differ
-  pub fewer_starts : startings tr < n → (r : Check) → r ≡ Refuse (refusal 14 2 (startings tr)) → StartsChecked t l tr r
-  fewer_starts h r q = record {
-    checked = λ e free g k d m.
-        let c = (f e).count in
-        let z : startings tr ≡ min (startings tr) (free_count t) = sym (min-eq_left (omega arith)) in
-        rw q (rw z (wrong_number (λ (y : startings tr ≡ free_count t). omega arith)));
-  }
-
-  pub more_starts : n < startings tr → (r : Check) → r ≡ Refuse (refusal 14 2 n) → StartsChecked t l tr r
-  more_starts h r q = record {
-    checked = λ e free g k d m.
-        let c = (f e).count in
-        let z : n ≡ min (startings tr) (free_count t) = c ∙ sym (min-eq_right (omega arith)) in
-        rw (q, z) (wrong_number (λ (y : startings tr ≡ free_count t). omega arith));
-  }
+  pub wrong_starts : ¬ (startings tr ≡ n) → (r : Check) → r ≡ Err (refusal 14 2 (min (startings tr) n)) → StartsChecked t l tr r
+  wrong_starts h r q = record { checked = λ e free g k d m. let c = (f e).count in rw (q, c) (wrong_number (λ y. h (y ∙ sym c))) }
 
   module _ (same : startings tr ≡ n) (i : ℕ) (p : SoFar t l tr i) where
     -- all have their types
-    pub all_start : startings tr ≤ i → StartsChecked t l tr Pass
+    pub all_start : startings tr ≤ i → StartsChecked t l tr (Ok tt)
     all_start h = record {
       checked = λ e free g k d m.
           let c = (f e).count in
@@ -117,7 +103,7 @@ module _ (t l tr array : List ℕ) (n : ℕ) (f : FreeIn t array n) where
 
     module _ (x : ℕ) (y : x ≡ get_or array i 0) (b : Bool) (s : StartSeen l tr x i b) (h : i < startings tr) where
       -- what is tested
-      tested : least (table_rungs t) ≡ Pass → least (trace_rungs tr) ≡ Pass → (d : Decoded l) → symbols l ≡ TableLayout.symbols t → start_fits d.types tr (get_or (free_of t) i 0) i ≡ b
+      tested : least (table_rungs t) ≡ Ok tt → least (trace_rungs tr) ≡ Ok tt → (d : Decoded l) → symbols l ≡ TableLayout.symbols t → start_fits d.types tr (get_or (free_of t) i 0) i ≡ b
       tested e k d m =
           let z : x ≡ get_or (free_of t) i 0 = y ∙ (f e).at i (omega arith) in
           let c = (f e).count in
@@ -128,10 +114,10 @@ module _ (t l tr array : List ℕ) (n : ℕ) (f : FreeIn t array n) where
       pub one_more : b ≡ true → SoFar t l tr (i + 1)
       one_more g = record { fit = λ e k d m j w. go e k d m j (eq-or-lt_of_le (let v : j ≤ i = omega arith in v)) }
         where
-          go : least (table_rungs t) ≡ Pass → least (trace_rungs tr) ≡ Pass → (d : Decoded l) → symbols l ≡ TableLayout.symbols t → (j : ℕ) → (j ≡ i) ⊎ (j < i) → start_fits d.types tr (get_or (free_of t) j 0) j ≡ true
+          go : least (table_rungs t) ≡ Ok tt → least (trace_rungs tr) ≡ Ok tt → (d : Decoded l) → symbols l ≡ TableLayout.symbols t → (j : ℕ) → (j ≡ i) ⊎ (j < i) → start_fits d.types tr (get_or (free_of t) j 0) j ≡ true
           go e k d m j (inl v) = rw v (tested e k d m ∙ g)
           go e k d m j (inr v) = p.fit e k d m j v
 
       -- it lacks its type
-      pub one_lacks : b ≡ false → (r : Check) → r ≡ Refuse (refusal 14 2 i) → StartsChecked t l tr r
+      pub one_lacks : b ≡ false → (r : Check) → r ≡ Err (refusal 14 2 i) → StartsChecked t l tr r
       one_lacks g r q = record { checked = λ e free z k d m. rw q (lacks (same ∙ (f e).count) h (tested e k d m ∙ g) (p.fit e k d m)) }

@@ -1,8 +1,6 @@
 -- Number 14, in the words of the meaning. Assumes nothing: these are definitions.
-use Rattle.std.specs.Prelude.{◌≡◌, Bool, true, false, List, ℕ, ◌<◌, min, get_or}
-use Rattle.answers.specs.Ladder.{refusal, least}
-use Rattle.answers.specs.declared.Check.{Check}
-use Rattle.answers.specs.declared.Check.TheVariants.{Pass, Refuse}
+use Rattle.std.specs.Prelude.{◌≡◌, Bool, true, false, List, ℕ, ◌<◌, min, get_or, Ok, Err}
+use Rattle.answers.specs.Ladder.{refusal, least, Check}
 use Rattle.entries.specs.Tiling.{listed}
 use Rattle.table_layout.specs.Layout as TableLayout
 use Rattle.table.specs.Faults.{table_rungs}
@@ -25,16 +23,16 @@ start_fits As tr x i = visible signature1 (index signature1 (values_of tr)) (typ
 -- a starting value for each free symbol, which visibly has its type; or 14 at the smaller number where F isn't that of the free symbols, or
 -- at the first starting value that lacks its type
 pub data Fourteen (t : List ℕ) (As : List T) (tr : List ℕ) : Check → Type 0 where
-  starts : startings tr ≡ free_count t → Starts signature1 (types_of signature1 As) (values_of tr) (free_of t) (listed (starting tr) 0 (startings tr)) → Fourteen t As tr Pass
-  wrong_number : ¬ (startings tr ≡ free_count t) → Fourteen t As tr (Refuse (refusal 14 2 (min (startings tr) (free_count t))))
+  starts : startings tr ≡ free_count t → Starts signature1 (types_of signature1 As) (values_of tr) (free_of t) (listed (starting tr) 0 (startings tr)) → Fourteen t As tr (Ok tt)
+  wrong_number : ¬ (startings tr ≡ free_count t) → Fourteen t As tr (Err (refusal 14 2 (min (startings tr) (free_count t))))
   lacks : {i : ℕ} → startings tr ≡ free_count t → i < startings tr → start_fits As tr (get_or (free_of t) i 0) i ≡ false
-      → ((j : ℕ) → j < i → start_fits As tr (get_or (free_of t) j 0) j ≡ true) → Fourteen t As tr (Refuse (refusal 14 2 i))
+      → ((j : ℕ) → j < i → start_fits As tr (get_or (free_of t) j 0) j ≡ true) → Fourteen t As tr (Err (refusal 14 2 i))
 
 -- the answer r for a table without faults 1 to 9, a list without faults 1 to 5 that has as many symbols, and a trace without faults 1 to 6
 pub record StartsChecked (t l tr : List ℕ) (r : Check) : Type 0 where
-  pub checked : least (table_rungs t) ≡ Pass → (free : ℕ) → least (list_rungs l free) ≡ Pass → least (trace_rungs tr) ≡ Pass → (d : Decoded l)
+  pub checked : least (table_rungs t) ≡ Ok tt → (free : ℕ) → least (list_rungs l free) ≡ Ok tt → least (trace_rungs tr) ≡ Ok tt → (d : Decoded l)
       → symbols l ≡ TableLayout.symbols t → Fourteen t d.types tr r
 
 -- the answer r: whether starting value i of a trace without faults 1 to 6 visibly has the type of symbol x
 pub record StartSeen (l tr : List ℕ) (x i : ℕ) (r : Bool) : Type 0 where
-  pub seen : least (trace_rungs tr) ≡ Pass → (d : Decoded l) → x < symbols l → r ≡ start_fits d.types tr x i
+  pub seen : least (trace_rungs tr) ≡ Ok tt → (d : Decoded l) → x < symbols l → r ≡ start_fits d.types tr x i

@@ -4,7 +4,7 @@
 
 ghost use Rattle.starting.specs.Fourteen.{StartSeen, StartsChecked};
 
-use answers::Check;
+use answers::{Check, File};
 
 // Starting value i visibly has the type of symbol x. A trace without a whole header has none.
 fn start_seen(list: &[u8], trace: &[u8], x: u8, i: u8) -> bool
@@ -26,18 +26,13 @@ pub fn check_starts(table: &[u8], list: &[u8], trace: &[u8]) -> Check
     let mut free = [0u8; 256];
     let n = free_symbols::list_free(table, &mut free);
     let count = trace::starting_count(trace);
-    if count < n {
-        return answers::refuse(14, codes::TRACE, base::wide(count));
+    if count != n {
+        return answers::refuse(14, File::Trace, count.min(n) as usize);
     }
-    if n < count {
-        return answers::refuse(14, codes::TRACE, base::wide(n));
-    }
-    let mut i: u8 = 0;
-    while i < count {
-        if !start_seen(list, trace, marks::get(&free, i), i) {
-            return answers::refuse(14, codes::TRACE, base::wide(i));
+    for i in 0..count {
+        if !start_seen(list, trace, free[i as usize], i) {
+            return answers::refuse(14, File::Trace, i as usize);
         }
-        i += 1;
     }
-    Check::Pass
+    Ok(())
 }

@@ -1,9 +1,13 @@
 -- How many statements are due, and how many terms are compound, by index. Assumes nothing.
-use mathlib.Core.Path.{◌≡◌, refl}
+use mathlib.Core.Path.{◌≡◌, refl, sym}
+use mathlib.Core.Bool.{Bool, true, false, cond}
 use mathlib.Core.List.{List, [], ◌∷◌, map}
 use Prim.Native.Nat.{ℕ, zero, suc, ◌+◌, ◌≤◌}
 use native.Mathlib.Omega.{arith}
+use lib.Dec.{eqb}
 use lib.ListN.{length, length-append, length-map}
+use borrow.Author.Tests.{eqb-true, eqb-false}
+use Rattle.base.specs.Pick.{pick, either}
 use Rattle.entries.specs.Fields.{code}
 use Rattle.table_layout.specs.Layout.{terms, steps, terms_at, steps_at}
 use Rattle.calculus.specs.Terms.{Term, Act, send, receive, fresh, compare, split, decrypt, map_act}
@@ -13,7 +17,7 @@ use Rattle.rendering.specs.Rendering.{Due, halves, dues_of, dues}
 use Rattle.rendering.specs.Translation.{compounds}
 use Rattle.entries.specs.Tiling.{listed}
 use Rattle.decoded.specs.Table.{entry_of, act_of, term_at, step_at, table_of}
-use Rattle.statement_counts.specs.Counts.{due_of, due_count, compound_of, compound_count}
+use Rattle.statement_counts.specs.Counts.{due_of, due_count, compound_of, is_compound, compound_count}
 use Rattle.decoded.proofs.Tabled.{step_as, term_as}
 use Rattle.statement_counts.proofs.Totals.{total}
 
@@ -56,11 +60,11 @@ compound_total s = compounds_total s 0 (terms s)
 
 -- ── One step, one term ──
 
-pub due_split : (s : List ℕ) (k : ℕ) → code s 1 (steps_at s) k ≡ 4 → 2 ≡ due_of s k
+due_split : (s : List ℕ) (k : ℕ) → code s 1 (steps_at s) k ≡ 4 → 2 ≡ due_of s k
 unfolding due_of dues_of act_of
 due_split s k c = rw (step_as s k 4 c)
 
-pub due_other : (s : List ℕ) (k op : ℕ) → code s 1 (steps_at s) k ≡ op → ¬ (op ≡ 4) → 1 ≡ due_of s k
+due_other : (s : List ℕ) (k op : ℕ) → code s 1 (steps_at s) k ≡ op → ¬ (op ≡ 4) → 1 ≡ due_of s k
 unfolding due_of dues_of act_of
 due_other s k zero c n = rw (step_as s k 0 c)
 due_other s k (suc zero) c n = rw (step_as s k 1 c)
@@ -70,20 +74,38 @@ due_other s k (suc (suc (suc (suc zero)))) c n = absurd (n refl)
 due_other s k (suc (suc (suc (suc (suc zero))))) c n = rw (step_as s k 5 c)
 due_other s k (suc (suc (suc (suc (suc (suc op)))))) c n = rw (step_as s k (suc (suc (suc (suc (suc (suc op)))))) c)
 
-pub compound_pair : (s : List ℕ) (i : ℕ) → code s 0 (terms_at s) i ≡ 1 → 1 ≡ compound_of s i
+compound_pair : (s : List ℕ) (i : ℕ) → code s 0 (terms_at s) i ≡ 1 → 1 ≡ compound_of s i
 unfolding compound_of compounds entry_of
 compound_pair s i c = rw (term_as s i 1 c)
 
-pub compound_encrypted : (s : List ℕ) (i : ℕ) → code s 0 (terms_at s) i ≡ 2 → 1 ≡ compound_of s i
+compound_encrypted : (s : List ℕ) (i : ℕ) → code s 0 (terms_at s) i ≡ 2 → 1 ≡ compound_of s i
 unfolding compound_of compounds entry_of
 compound_encrypted s i c = rw (term_as s i 2 c)
 
-pub compound_not : (s : List ℕ) (i op : ℕ) → code s 0 (terms_at s) i ≡ op → ¬ (op ≡ 1) → ¬ (op ≡ 2) → 0 ≡ compound_of s i
+compound_not : (s : List ℕ) (i op : ℕ) → code s 0 (terms_at s) i ≡ op → ¬ (op ≡ 1) → ¬ (op ≡ 2) → 0 ≡ compound_of s i
 unfolding compound_of compounds entry_of
 compound_not s i zero c p q = rw (term_as s i 0 c)
 compound_not s i (suc zero) c p q = absurd (p refl)
 compound_not s i (suc (suc zero)) c p q = absurd (q refl)
 compound_not s i (suc (suc (suc op))) c p q = rw (term_as s i (suc (suc (suc op))) c)
+
+-- what a step makes due, by its code
+pub due_by_code : (s : List ℕ) (k : ℕ) → due_of s k ≡ pick (eqb (code s 1 (steps_at s) k) 4) 2 1
+due_by_code s k = go (eqb (code s 1 (steps_at s) k) 4) refl
+  where
+    go : (b : Bool) → eqb (code s 1 (steps_at s) k) 4 ≡ b → due_of s k ≡ pick b 2 1
+    go true q = sym (due_split s k (eqb-true _ _ q))
+    go false q = sym (due_other s k _ refl (eqb-false _ _ q))
+
+-- whether a term is compound, by its code
+pub compound_by_code : (s : List ℕ) (i : ℕ) → is_compound s i ≡ either (eqb (code s 0 (terms_at s) i) 1) (eqb (code s 0 (terms_at s) i) 2)
+unfolding is_compound
+compound_by_code s i = go (eqb (code s 0 (terms_at s) i) 1) (eqb (code s 0 (terms_at s) i) 2) refl refl
+  where
+    go : (a b : Bool) → eqb (code s 0 (terms_at s) i) 1 ≡ a → eqb (code s 0 (terms_at s) i) 2 ≡ b → eqb (compound_of s i) 1 ≡ either a b
+    go true b p q = rw (← compound_pair s i (eqb-true _ _ p))
+    go false true p q = rw (← compound_encrypted s i (eqb-true _ _ q))
+    go false false p q = rw (← compound_not s i _ refl (eqb-false _ _ p) (eqb-false _ _ q))
 
 -- at most two statements
 pub few_due : (p : Act signature1 ℕ) → length (dues_of signature1 halves p) ≤ 2
@@ -107,3 +129,12 @@ compound_small s i = go (term_at s i)
     go : (t : Entry signature1 ℕ) → compounds signature1 (t ∷ []) ≤ 1
     go (leaf_entry x) = omega arith
     go (kind_entry b) = omega arith
+
+-- so it counts as one term or none
+pub compound_counts : (s : List ℕ) (i : ℕ) → cond (is_compound s i) 1 0 ≡ compound_of s i
+unfolding is_compound
+compound_counts s i = go (eqb (compound_of s i) 1) refl
+  where
+    go : (b : Bool) → eqb (compound_of s i) 1 ≡ b → cond b 1 0 ≡ compound_of s i
+    go true q = sym (eqb-true _ _ q)
+    go false q = omega (arith, compound_small s i, eqb-false _ _ q)

@@ -9,7 +9,6 @@ use native.Mathlib.Decide.{ℕ_discrete}
 use lib.ListN.{length}
 use Rattle.base.specs.Bytes.{byte}
 use Rattle.answers.specs.Ladder.{least}
-use Rattle.answers.specs.declared.Check.TheVariants.{Pass}
 use Rattle.codes.specs.Rows.{cell}
 use Rattle.entries.specs.Fields.{code}
 use Rattle.table_layout.specs.Layout.{symbols, terms, steps, terms_at, steps_at, term_field, term_role, step_field, step_role}
@@ -36,6 +35,7 @@ use Rattle.decoded.proofs.Unlike.{terms_unrepeated}
 use Rattle.decoded.specs.Indexes.{entries_of}
 use Rattle.statement_counts.specs.Counts.{due_count, compound_count}
 use Rattle.decoded.proofs.Tabled.{counts_small, a_leaf, a_compound, step_as, step_known}
+use Rattle.std.proofs.Common.{Ok}
 
 in_listed : {A : Type 0} (f : ℕ → A) (i n k : ℕ) → i ≤ k → k < i + n → In (f k) (listed f i n)
 unfolding listed
@@ -46,7 +46,7 @@ in_listed {A} f i (suc n) k p q = go (ℕ_discrete k i) (λ l. in_listed f (suc 
     go (yes e) g = rw e here
     go (no d) g = there (g (omega arith))
 
-module _ (s : List ℕ) (e : least (table_rungs s) ≡ Pass) where
+module _ (s : List ℕ) (e : least (table_rungs s) ≡ Ok tt) where
   leaves : (i x : ℕ) → i < length (table_of s).entries → entry_at signature1 0 (table_of s).entries i ≡ leaf_entry x → x < length (table_of s).sorts
   unfolding entries_of
   leaves i x h q = rw (sorts_length s) (go (ℕ_discrete (code s 0 (terms_at s) i) 0))

@@ -1,17 +1,18 @@
 -- What each turn of the two passes adds to its array. Assumes nothing.
 use mathlib.Core.Path.{◌≡◌, refl, sym, ◌∙◌}
-use mathlib.Core.Bool.{true}
+use mathlib.Core.Bool.{Bool, true, false}
 use mathlib.Core.Logic.{◌⊎◌, inl, inr}
 use mathlib.Core.List.{List, [], ◌∷◌, ◌++◌}
-use Prim.Native.Nat.{ℕ, zero, suc, ◌+◌, ◌<◌, ◌≤◌}
+use Prim.Native.Nat.{ℕ, zero, suc, max, ◌+◌, ◌<◌, ◌≤◌}
 use native.Mathlib.Numerals.{add-one}
 use native.Mathlib.Nat.{eq-or-lt_of_le}
 use native.Mathlib.Omega.{arith}
-use lib.Dec.{eqb}
+use lib.Dec.{leb, eqb}
 use lib.ListN.{length, get_or, length-append, length-replicate, get_or-replicate, get_or-append, get_or-eq_default}
 use lib.Seq.{get_or_at}
-use borrow.Author.Tests.{eq-eqb, ne_eqb}
-use Rattle.base.specs.Pick.{both}
+use borrow.Author.Tests.{leb-true, leb-false, eq-eqb, ne_eqb}
+use Rattle.std.proofs.Math.Nat.{max-eq_left, max-eq_right}
+use Rattle.base.specs.Pick.{pick, both}
 use Rattle.marks.specs.Put.{Put, blank}
 use Rattle.table_binding.specs.Binding.{binds, binder, larger, field_latest, latest}
 use Rattle.table_binding.specs.Tables.{Binders, Latest}
@@ -38,9 +39,6 @@ unfolding latest
 latest_size s zero = refl
 latest_size s (suc n) = length-append (latest s n) _ ∙ rw (latest_size s n) (omega arith)
 
-pub latest_start : (s z : List ℕ) → z ≡ blank → Latest s 0 z
-latest_start s z e = rw e (record { size = blank_size; at = λ i h. absurd (omega arith) })
-
 -- one term more
 pub latest_more : (s z o : List ℕ) (i : ℕ) → i < 256 → Latest s i z
     → Put z o (λ j. both true (eqb i j)) (larger (field_latest s (latest s i) i 0) (field_latest s (latest s i) i 1)) → Latest s (i + 1) o
@@ -58,6 +56,14 @@ latest_more s z o i b l p = record { size = p.size ∙ l.size; at = λ j h. rw a
         let lt : j < i = omega arith in
         p.at j (rw l.size (omega arith))
         ∙ rw (ne_eqb i j (λ e. absurd (omega arith))) (l.at j lt ∙ sym (get_or-append (latest s i) (here ∷ []) 0 j (rw (latest_size s i) lt)))
+
+-- the library's maximum is the larger of two
+pub larger_max : (a b : ℕ) → larger a b ≡ max a b
+larger_max a b = go (leb a b) refl
+  where
+    go : (t : Bool) → leb a b ≡ t → pick t b a ≡ max a b
+    go true e = sym (max-eq_right (leb-true _ _ e))
+    go false e = sym (max-eq_left (omega (arith, leb-false _ _ e)))
 
 -- past the terms there is none
 pub latest_past : (s : List ℕ) (n i : ℕ) → n ≤ i → get_or (latest s n) i 0 ≡ 0

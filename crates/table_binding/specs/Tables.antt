@@ -1,9 +1,8 @@
 -- What the two arrays of the passes hold. Assumes nothing: these are definitions.
-use Rattle.std.specs.Prelude.{◌≡◌, List, ℕ, ◌<◌, length, get_or}
-use Rattle.answers.specs.declared.Check.{Check}
-use Rattle.answers.specs.declared.Check.TheVariants.{Pass, Refuse}
+use Rattle.std.specs.Prelude.{◌≡◌, List, ℕ, ◌<◌, length, get_or, Ok, Err}
 use Rattle.table_layout.specs.Layout.{steps}
 use Rattle.table_binding.specs.Binding.{binder, latest}
+use Rattle.answers.specs.Ladder.{Check}
 
 -- each symbol's binding step among the first n steps
 pub record Binders (s : List ℕ) (n : ℕ) (array : List ℕ) : Type 0 where
@@ -12,8 +11,8 @@ pub record Binders (s : List ℕ) (n : ℕ) (array : List ℕ) : Type 0 where
 
 -- all steps are noted where nothing is refused
 abbrev pub BindersIf : List ℕ → List ℕ → Check → Type 0
-BindersIf s array Pass = Binders s (steps s) array
-BindersIf s array (Refuse x) = Unit
+BindersIf s array (Ok tt) = Binders s (steps s) array
+BindersIf s array (Err x) = Unit
 
 -- the latest binding step inside each of the first n terms
 pub record Latest (s : List ℕ) (n : ℕ) (array : List ℕ) : Type 0 where

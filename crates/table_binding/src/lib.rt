@@ -7,20 +7,17 @@ ghost use Rattle.std.specs.Prelude.{◌≡◌, [], ◌∷◌, ◌+◌, ◌<◌};
 ghost use Rattle.answers.specs.Ladder.{least};
 ghost use Rattle.marks.specs.Put.{Put, blank};
 ghost use Rattle.table_layout.specs.Layout.{terms, steps};
-ghost use Rattle.table_binding.specs.Binding.{is_binder, binds_at, binds, again, twice, binds_new, larger, field_latest, latest, field_in_scope, in_scope, bind_rung, scope_rung, bind_rungs};
+ghost use Rattle.table_binding.specs.Binding.{is_binder, binds_at, binds, again, twice, binds_new, field_latest, latest, field_in_scope, in_scope, bind_rung, scope_rung, bind_rungs};
 ghost use Rattle.table_binding.specs.Tables.{Binders, BindersIf, Latest};
 
-use answers::Check;
+use answers::{Check, File};
 
 // Field j of step k binds a symbol.
 pub fn is_binder(s: &[u8], k: u8, j: u8) -> bool
     ensures { result ≡ is_binder s.now k j }
 {
     let role = table_layout::step_role(s, k, j);
-    if role == codes::NAME {
-        return true;
-    }
-    role == codes::VARIABLE
+    role == codes::NAME || role == codes::VARIABLE
 }
 
 // Notes step k as the binding step of the symbol in its field j, if that binds one.
@@ -50,22 +47,16 @@ fn binds_again(binders: &[u8; 256], s: &[u8], k: u8, j: u8) -> bool
     requires { Binders s.now k binders.now }
     ensures { result ≡ again s.now k j }
 {
-    if is_binder(s, k, j) {
-        return marks::get(binders, table_layout::step_field(s, k, j)) != 0;
-    }
-    false
+    is_binder(s, k, j) && marks::get(binders, table_layout::step_field(s, k, j)) != 0
 }
 
 // Step k binds one symbol twice.
 fn binds_twice(s: &[u8], k: u8) -> bool
     ensures { result ≡ twice s.now k }
 {
-    if is_binder(s, k, 2) {
-        if is_binder(s, k, 3) {
-            return table_layout::step_field(s, k, 2) == table_layout::step_field(s, k, 3);
-        }
-    }
-    false
+    is_binder(s, k, 2)
+        && is_binder(s, k, 3)
+        && table_layout::step_field(s, k, 2) == table_layout::step_field(s, k, 3)
 }
 
 // Step k binds no symbol that is bound already.
@@ -73,13 +64,7 @@ fn binds_new(binders: &[u8; 256], s: &[u8], k: u8) -> bool
     requires { Binders s.now k binders.now }
     ensures { result ≡ binds_new s.now k }
 {
-    if binds_again(binders, s, k, 2) {
-        return false;
-    }
-    if binds_again(binders, s, k, 3) {
-        return false;
-    }
-    !binds_twice(s, k)
+    !binds_again(binders, s, k, 2) && !binds_again(binders, s, k, 3) && !binds_twice(s, k)
 }
 
 // Number 8, and the binding step of each symbol where there is no fault.
@@ -88,25 +73,13 @@ fn bind_all(binders: &mut [u8; 256], s: &[u8]) -> Check
     ensures number { result ≡ least (bind_rung s.now ∷ []) }
     ensures noted { BindersIf s.now binders.new result }
 {
-    let n = table_layout::step_count(s);
-    let mut k = 0;
-    while k < n {
+    for k in 0..table_layout::step_count(s) {
         if !binds_new(binders, s, k) {
-            return answers::refuse(8, codes::TABLE, base::wide(k));
+            return answers::refuse(8, File::Table, base::wide(k));
         }
         bind_step(binders, s, k);
-        k += 1;
     }
-    Check::Pass
-}
-
-fn max(a: u8, b: u8) -> u8
-    ensures { result ≡ larger a b }
-{
-    if a <= b {
-        return b;
-    }
-    a
+    Ok(())
 }
 
 // The latest binding step inside field j of term i, given those of the lower terms.
@@ -117,14 +90,12 @@ fn field_latest(binders: &[u8; 256], late: &[u8; 256], s: &[u8], i: u8, j: u8) -
     let role = table_layout::term_role(s, i, j);
     let v = table_layout::term_field(s, i, j);
     if role == codes::SYMBOL {
-        return marks::get(binders, v);
+        marks::get(binders, v)
+    } else if role == codes::PART && v < i {
+        marks::get(late, v)
+    } else {
+        0
     }
-    if role == codes::PART {
-        if v < i {
-            return marks::get(late, v);
-        }
-    }
-    0
 }
 
 // The latest binding step inside each term.
@@ -132,13 +103,10 @@ fn all_latest(binders: &[u8; 256], late: &mut [u8; 256], s: &[u8])
     requires { (Binders s.now (steps s.now) binders.now) × (late.old ≡ blank) }
     ensures { Latest s.now (terms s.now) late.new }
 {
-    let n = table_layout::term_count(s);
-    let mut i = 0;
-    while i < n {
+    for i in 0..table_layout::term_count(s) {
         let a = field_latest(binders, late, s, i, 0);
         let b = field_latest(binders, late, s, i, 1);
-        marks::put(late, true, i, max(a, b));
-        i += 1;
+        marks::put(late, true, i, a.max(b));
     }
 }
 
@@ -147,23 +115,17 @@ fn field_in_scope(late: &[u8; 256], s: &[u8], k: u8, j: u8) -> bool
     requires { Latest s.now (terms s.now) late.now }
     ensures { result ≡ field_in_scope s.now k j }
 {
-    if table_layout::step_role(s, k, j) == codes::IN_TERM {
-        let t = table_layout::step_field(s, k, j);
-        if t < table_layout::term_count(s) {
-            return marks::get(late, t) <= k;
-        }
-    }
-    true
+    let t = table_layout::step_field(s, k, j);
+    table_layout::step_role(s, k, j) != codes::IN_TERM
+        || table_layout::term_count(s) <= t
+        || marks::get(late, t) <= k
 }
 
 fn in_scope(late: &[u8; 256], s: &[u8], k: u8) -> bool
     requires { Latest s.now (terms s.now) late.now }
     ensures { result ≡ in_scope s.now k }
 {
-    if field_in_scope(late, s, k, 0) {
-        return field_in_scope(late, s, k, 1);
-    }
-    false
+    field_in_scope(late, s, k, 0) && field_in_scope(late, s, k, 1)
 }
 
 // Number 9.
@@ -171,15 +133,10 @@ fn check_scope(late: &[u8; 256], s: &[u8]) -> Check
     requires { Latest s.now (terms s.now) late.now }
     ensures { result ≡ least (scope_rung s.now ∷ []) }
 {
-    let n = table_layout::step_count(s);
-    let mut k = 0;
-    while k < n {
-        if !in_scope(late, s, k) {
-            return answers::refuse(9, codes::TABLE, base::wide(k));
-        }
-        k += 1;
+    match (0..table_layout::step_count(s)).find(|&k| !in_scope(late, s, k)) {
+        None => Ok(()),
+        Some(k) => answers::refuse(9, File::Table, base::wide(k)),
     }
-    Check::Pass
 }
 
 // Numbers 8 and 9.
@@ -187,10 +144,7 @@ pub fn check_binding(s: &[u8]) -> Check
     ensures { result ≡ least (bind_rungs s.now) }
 {
     let mut binders = [0u8; 256];
-    let a = bind_all(&mut binders, s);
-    let Check::Pass = a else {
-        return a;
-    };
+    bind_all(&mut binders, s)?;
     let mut late = [0u8; 256];
     all_latest(&binders, &mut late, s);
     check_scope(&late, s)

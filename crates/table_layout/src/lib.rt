@@ -7,7 +7,8 @@ ghost use Rattle.entries.specs.Fields.{code};
 ghost use Rattle.table_layout.specs.Layout.{symbols, terms, steps, terms_at, steps_at, sort, term_field, term_role, step_field, step_role, counts_ok, length_ok, sort_ok, step_in_range, step_ok};
 ghost use Rattle.table_layout.specs.Faults.{frame_rungs, symbol_rung, term_rung, step_rung, entry_rungs};
 
-use answers::Check;
+use answers::{Check, File};
+use codes::Kind;
 
 // The counts: symbols, terms, steps.
 pub fn symbol_count(s: &[u8]) -> u8
@@ -48,17 +49,18 @@ pub fn sort_at(s: &[u8], x: u8) -> u8
     base::byte_at(s, 8 + base::wide(x))
 }
 
-// The fields of a term and of a step, and their roles.
+// The fields of a term and of a step, their roles and their codes. One function for any kind is `entries`' own: these name the kind and
+// where it begins, which each caller would else write.
 pub fn term_role(s: &[u8], i: u8, j: u8) -> u8
     ensures { result ≡ term_role s.now i j }
 {
-    entries::role_at(s, codes::TERM, terms_at(s), i as u16, j)
+    entries::role_at(s, Kind::Term, terms_at(s), i as u16, j)
 }
 
 pub fn step_role(s: &[u8], k: u8, j: u8) -> u8
     ensures { result ≡ step_role s.now k j }
 {
-    entries::role_at(s, codes::STEP, steps_at(s), k as u16, j)
+    entries::role_at(s, Kind::Step, steps_at(s), k as u16, j)
 }
 
 pub fn term_field(s: &[u8], i: u8, j: u8) -> u8
@@ -79,29 +81,23 @@ pub fn step_field(s: &[u8], k: u8, j: u8) -> u8
     )
 }
 
-// The code of term i, and of step k.
 pub fn term_code(s: &[u8], i: u8) -> u8
     ensures { result ≡ code s.now 0 (terms_at s.now) i }
 {
-    entries::code_at(s, codes::TERM, terms_at(s), i as u16)
+    entries::code_at(s, Kind::Term, terms_at(s), i as u16)
 }
 
 pub fn step_code(s: &[u8], k: u8) -> u8
     ensures { result ≡ code s.now 1 (steps_at s.now) k }
 {
-    entries::code_at(s, codes::STEP, steps_at(s), k as u16)
+    entries::code_at(s, Kind::Step, steps_at(s), k as u16)
 }
 
 // Numbers 1 to 4.
 fn counts_ok(s: &[u8]) -> bool
     ensures { result ≡ counts_ok s.now }
 {
-    if symbol_count(s) <= 96 {
-        if term_count(s) <= 128 {
-            return step_count(s) <= 64;
-        }
-    }
-    false
+    symbol_count(s) <= 96 && term_count(s) <= 128 && step_count(s) <= 64
 }
 
 fn length_ok(s: &[u8]) -> bool
@@ -113,36 +109,28 @@ fn length_ok(s: &[u8]) -> bool
 pub fn check_frame(s: &[u8]) -> Check
     ensures { result ≡ least (frame_rungs s.now) }
 {
-    opening::check_frame(s, codes::TABLE, counts_ok(s), length_ok(s))
+    opening::check_frame(s, File::Table, counts_ok(s), length_ok(s))
 }
 
 // Number 5: symbols, terms, steps.
 fn check_symbols(s: &[u8]) -> Check
     ensures { result ≡ least (symbol_rung s.now ∷ []) }
 {
-    let n = symbol_count(s);
-    let mut i = 0;
-    while i < n {
-        if 2 <= sort_at(s, i) {
-            return answers::refuse(5, codes::TABLE, 8 + base::wide(i));
-        }
-        i += 1;
+    match (0..symbol_count(s)).find(|&i| 2 <= sort_at(s, i)) {
+        None => Ok(()),
+        Some(i) => answers::refuse(5, File::Table, 8 + base::wide(i)),
     }
-    Check::Pass
 }
 
 // Field j of step k binds a symbol of its sort, or none.
 fn sort_ok(s: &[u8], k: u8, j: u8) -> bool
     ensures { result ≡ sort_ok s.now k j }
 {
-    let role = step_role(s, k, j);
-    if role == codes::NAME {
-        return sort_at(s, step_field(s, k, j)) == 0;
+    match step_role(s, k, j) {
+        codes::NAME => sort_at(s, step_field(s, k, j)) == 0,
+        codes::VARIABLE => sort_at(s, step_field(s, k, j)) == 1,
+        _ => true,
     }
-    if role == codes::VARIABLE {
-        return sort_at(s, step_field(s, k, j)) == 1;
-    }
-    true
 }
 
 // The code of step k is known, and its fields are in range.
@@ -158,7 +146,7 @@ fn step_in_range(s: &[u8], k: u8) -> bool
     );
     entries::entry_ok(
         s,
-        codes::STEP,
+        Kind::Step,
         base::word_at(s, 3),
         steps_at(s),
         k as u16,
@@ -169,30 +157,20 @@ fn step_in_range(s: &[u8], k: u8) -> bool
 fn step_ok(s: &[u8], k: u8) -> bool
     ensures { result ≡ step_ok s.now k }
 {
-    if step_in_range(s, k) {
-        if sort_ok(s, k, 2) {
-            return sort_ok(s, k, 3);
-        }
-    }
-    false
+    step_in_range(s, k) && sort_ok(s, k, 2) && sort_ok(s, k, 3)
 }
 
 fn check_steps(s: &[u8]) -> Check
     ensures { result ≡ least (step_rung s.now ∷ []) }
 {
-    let n = step_count(s);
-    let mut k = 0;
-    while k < n {
-        if !step_ok(s, k) {
-            return answers::refuse(
-                5,
-                codes::TABLE,
-                entries::place_of(codes::STEP, steps_at(s), k as u16),
-            );
-        }
-        k += 1;
+    match (0..step_count(s)).find(|&k| !step_ok(s, k)) {
+        None => Ok(()),
+        Some(k) => answers::refuse(
+            5,
+            File::Table,
+            entries::place_of(Kind::Step, steps_at(s), k as u16),
+        ),
     }
-    Check::Pass
 }
 
 fn check_terms(s: &[u8]) -> Check
@@ -203,8 +181,8 @@ fn check_terms(s: &[u8]) -> Check
     let count = term_count(s) as u16;
     entries::check_nodes(
         s,
-        codes::TERM,
-        codes::TABLE,
+        Kind::Term,
+        File::Table,
         version,
         terms_at(s),
         symbols,
@@ -215,13 +193,7 @@ fn check_terms(s: &[u8]) -> Check
 pub fn check_entries(s: &[u8]) -> Check
     ensures { result ≡ least (entry_rungs s.now) }
 {
-    let a = check_symbols(s);
-    let Check::Pass = a else {
-        return a;
-    };
-    let b = check_terms(s);
-    let Check::Pass = b else {
-        return b;
-    };
+    check_symbols(s)?;
+    check_terms(s)?;
     check_steps(s)
 }

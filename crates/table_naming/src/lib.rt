@@ -1,5 +1,6 @@
 // Terms that equal an earlier one, and terms that nothing names: numbers 6 and 7.
 // Naming is found in one pass over the terms and one over the steps, which leave a mark for each term that they name.
+// The two passes are alike and stay apart: they share no reader, so that one function for both would take each call as a closure.
 #![tactic(auto)]
 
 ghost use Rattle.std.specs.Prelude.{◌≡◌, [], ◌∷◌};
@@ -9,7 +10,8 @@ ghost use Rattle.marks.specs.Put.{Put, blank};
 ghost use Rattle.table_layout.specs.Layout.{terms, steps};
 ghost use Rattle.table_naming.specs.Naming.{part_at, has_part, use_at, uses_term, named, idle_rung, term_rungs};
 
-use answers::Check;
+use answers::{Check, File};
+use codes::Kind;
 
 // Marks the part in field j of term e.
 fn mark_part(marks: &mut [u8; 256], s: &[u8], e: u8, j: u8)
@@ -31,11 +33,8 @@ fn mark_parts(marks: &mut [u8; 256], s: &[u8], e: u8)
 fn mark_all_parts(marks: &mut [u8; 256], s: &[u8])
     ensures { Put marks.old marks.new (λ i. some (λ e. has_part s.now e i) (terms s.now)) 1 }
 {
-    let n = table_layout::term_count(s);
-    let mut e = 0;
-    while e < n {
+    for e in 0..table_layout::term_count(s) {
         mark_parts(marks, s, e);
-        e += 1;
     }
 }
 
@@ -59,11 +58,8 @@ fn mark_uses(marks: &mut [u8; 256], s: &[u8], k: u8)
 fn mark_all_uses(marks: &mut [u8; 256], s: &[u8])
     ensures { Put marks.old marks.new (λ i. some (λ k. uses_term s.now k i) (steps s.now)) 1 }
 {
-    let n = table_layout::step_count(s);
-    let mut k = 0;
-    while k < n {
+    for k in 0..table_layout::step_count(s) {
         mark_uses(marks, s, k);
-        k += 1;
     }
 }
 
@@ -72,15 +68,10 @@ fn first_idle(marks: &[u8; 256], s: &[u8]) -> Check
     requires { Put blank marks.now (named s.now) 1 }
     ensures { result ≡ least (idle_rung s.now ∷ []) }
 {
-    let n = table_layout::term_count(s);
-    let mut i = 0;
-    while i < n {
-        if marks::get(marks, i) == 0 {
-            return answers::refuse(7, codes::TABLE, base::wide(i));
-        }
-        i += 1;
+    match (0..table_layout::term_count(s)).find(|&i| marks::get(marks, i) == 0) {
+        None => Ok(()),
+        Some(i) => answers::refuse(7, File::Table, base::wide(i)),
     }
-    Check::Pass
 }
 
 // Number 7.
@@ -98,15 +89,6 @@ pub fn check_terms(s: &[u8]) -> Check
     ensures { result ≡ least (term_rungs s.now) }
 {
     let count = table_layout::term_count(s) as u16;
-    let a = filing::check_unlike(
-        s,
-        codes::TERM,
-        codes::TABLE,
-        table_layout::terms_at(s),
-        count,
-    );
-    let Check::Pass = a else {
-        return a;
-    };
+    filing::check_unlike(s, Kind::Term, File::Table, table_layout::terms_at(s), count)?;
     check_named(s)
 }

@@ -6,7 +6,6 @@ use Prim.Native.Nat.{ℕ, zero, suc, ◌+◌, ◌≤◌, ◌<◌}
 use native.Mathlib.Nat.{eq-or-lt_of_le}
 use native.Mathlib.Omega.{arith}
 use Rattle.answers.specs.Ladder.{least}
-use Rattle.answers.specs.declared.Check.TheVariants.{Pass}
 use Rattle.codes.specs.Rows.{part_role}
 use Rattle.entries.specs.Fields.{code}
 use Rattle.entries.specs.Tiling.{listed}
@@ -36,10 +35,11 @@ use Rattle.decoded.proofs.Holding.{entry_at_lem, entries_length}
 use Rattle.text.specs.Numbering.{InLimits}
 use Rattle.text.specs.Right.{HasPart, left_part, right_part, NamedIn, Right}
 use Rattle.text_table.specs.Statements.{AcceptedIsRight}
+use Rattle.std.proofs.Common.{Ok}
 
 -- ── From a file to its table ──
 
-module _ (s : List ℕ) (e : least (table_rungs s) ≡ Pass) where
+module _ (s : List ℕ) (e : least (table_rungs s) ≡ Ok tt) where
   right : TableRight s
   right = (table_passes s).0 e
 

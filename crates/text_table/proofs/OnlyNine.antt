@@ -6,7 +6,6 @@ use Prim.Native.Nat.{ℕ, zero, suc, ◌≤◌, ◌<◌}
 use native.Mathlib.Omega.{arith}
 use lib.ListN.{length, get_or}
 use Rattle.answers.specs.Ladder.{least}
-use Rattle.answers.specs.declared.Check.TheVariants.{Pass}
 use Rattle.answers.proofs.Passes.{rung_passes}
 use Rattle.base.specs.Bytes.{byte}
 use Rattle.codes.specs.Marks.{mark}
@@ -40,6 +39,7 @@ use Rattle.text_table.specs.Statements.{FileHasBytes, OnlyNine, TextsOnlyNine, S
 use Rattle.text_table.proofs.FileLayout.{file, file_steps, step_is, file_stands_for_table}
 use Rattle.text_table.proofs.Passing.{bound_by, file_entered, only_scope}
 use Rattle.text_table.proofs.Accepted.{accepted_right, accepted_limits}
+use Rattle.std.proofs.Common.{Ok}
 
 pub only_nine : OnlyNine
 only_nine t r l = only_scope t r l
@@ -77,7 +77,7 @@ module _ (t : Table signature1) (r : Right t) (l : InLimits t) (c : Scoped signa
       let y : Lacks signature1 x (denoted signature1 0 (table_of s).entries i) = subst (λ (u : Table signature1). Lacks signature1 x (denoted signature1 0 u.entries i)) (sym (file_stands_for_table t)) z in
       (holds_means s n x i (terms_there s n k h i o.uses)).0 o.holds y
 
-  passes : least (table_rungs s) ≡ Pass
+  passes : least (table_rungs s) ≡ Ok tt
   passes = only_scope t r l ∙ rung_passes (scope_rung s) (λ k h. in_scope_lem k h (in_scope s k) refl)
     where
       in_scope_lem : (k : ℕ) → k < steps s → (b : Bool) → in_scope s k ≡ b → in_scope s k ≡ true

@@ -1,8 +1,7 @@
 -- Tables of texts as files: a table's file stands for it, numbers 1 to 8 never arise from it, and an accepted file is a table that the writer's theorems
 -- speak of. Assumes nothing: these are statements.
-use Rattle.std.specs.Prelude.{◌≡◌, List, [], ◌∷◌, ℕ, ◌<◌}
+use Rattle.std.specs.Prelude.{◌≡◌, List, [], ◌∷◌, ℕ, ◌<◌, Ok}
 use Rattle.answers.specs.Ladder.{least}
-use Rattle.answers.specs.declared.Check.TheVariants.{Pass}
 use Rattle.calculus.specs.Tables.{Table, process}
 use Rattle.calculus.specs.Scope.{All, Scoped}
 use Rattle.calculus.specs.Version1.{signature1}
@@ -33,12 +32,12 @@ TextsOnlyNine = (s : List ℕ) (d : Source) → Reads s d → InLimits (stands_f
 
 -- and 9 does not arise where every step is in scope
 abbrev pub ScopedPasses : Type 0
-ScopedPasses = (t : Table signature1) → Right t → InLimits t → Scoped signature1 (process signature1 t) → least (table_rungs (table_bytes t)) ≡ Pass
+ScopedPasses = (t : Table signature1) → Right t → InLimits t → Scoped signature1 (process signature1 t) → least (table_rungs (table_bytes t)) ≡ Ok tt
 
 -- a file that passes 1 to 9 stands for a table in form, within its limits
 abbrev pub AcceptedIsRight : Type 0
-AcceptedIsRight = (s : List ℕ) → least (table_rungs s) ≡ Pass → Right (table_of s) × InLimits (table_of s)
+AcceptedIsRight = (s : List ℕ) → least (table_rungs s) ≡ Ok tt → Right (table_of s) × InLimits (table_of s)
 
 -- what is read of the text written from such a file passes them too
 abbrev pub ReadBackPasses : Type 0
-ReadBackPasses = (s : List ℕ) → least (table_rungs s) ≡ Pass → least (table_rungs (table_bytes (stands_for (source_of (table_of s))))) ≡ Pass
+ReadBackPasses = (s : List ℕ) → least (table_rungs s) ≡ Ok tt → least (table_rungs (table_bytes (stands_for (source_of (table_of s))))) ≡ Ok tt

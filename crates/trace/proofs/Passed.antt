@@ -4,13 +4,13 @@ use mathlib.Core.Bool.{true}
 use mathlib.Core.List.{List, [], ◌∷◌, ◌++◌}
 use Prim.Native.Nat.{ℕ, ◌<◌}
 use Rattle.answers.specs.Ladder.{Rung, least}
-use Rattle.answers.specs.declared.Check.TheVariants.{Pass}
 use Rattle.answers.proofs.Passes.{first_passed, rest_passed}
 use Rattle.entries.specs.Faults.{node_ok, alone}
 use Rattle.opening.specs.Opening.{version}
 use Rattle.opening.proofs.Frames.{Framed, frame_passed}
 use Rattle.trace.specs.Layout.{values, supplies, startings, starts_at, supplies_at, index_ok, counts_ok, length_ok}
 use Rattle.trace.specs.Faults.{frame_rungs, value_rung, start_rung, supply_rung, entry_rungs, equal_rung, trace_rungs}
+use Rattle.std.proofs.Common.{Ok}
 
 -- after 1 to 5: the frame, each value, and each starting and supplied one
 pub record Entered (s : List ℕ) : Type 0 where
@@ -25,7 +25,7 @@ pub record Passed (s : List ℕ) : Type 0 where
   pub each_alone : (i : ℕ) → i < values s → alone s 3 10 i ≡ true
 
 -- 1 to 5 pass, whatever follows them
-pub entries_passed : (s : List ℕ) (rs : List Rung) → least (frame_rungs s ++ (entry_rungs s ++ rs)) ≡ Pass → Entered s × (least rs ≡ Pass)
+pub entries_passed : (s : List ℕ) (rs : List Rung) → least (frame_rungs s ++ (entry_rungs s ++ rs)) ≡ Ok tt → Entered s × (least rs ≡ Ok tt)
 entries_passed s rs e =
     let (f, e₁) = frame_passed 2 s (counts_ok s) (length_ok s) (entry_rungs s ++ rs) e in
     let e₂ = rest_passed (value_rung s) (start_rung s ∷ supply_rung s ∷ rs) e₁ in
@@ -40,7 +40,7 @@ entries_passed s rs e =
     )
 
 -- 1 to 6 pass
-pub trace_passed : (s : List ℕ) → least (trace_rungs s) ≡ Pass → Passed s
+pub trace_passed : (s : List ℕ) → least (trace_rungs s) ≡ Ok tt → Passed s
 trace_passed s e =
     let (n, e₁) = entries_passed s (equal_rung s ∷ []) e in
     record { entered = n; each_alone = first_passed (equal_rung s) [] e₁ }

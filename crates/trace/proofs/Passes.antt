@@ -7,7 +7,6 @@ use lib.Dec.{leb}
 use borrow.Author.Tests.{leb-true, le-leb, eqb-true, eq-eqb}
 use Rattle.base.proofs.BothLaws.{both_true, both_parts}
 use Rattle.answers.specs.Ladder.{least}
-use Rattle.answers.specs.declared.Check.TheVariants.{Pass}
 use Rattle.answers.proofs.Ladder.{least_none}
 use Rattle.answers.proofs.Passes.{rung_right}
 use Rattle.opening.proofs.Frames.{frame_right, Framed as Opened}
@@ -16,6 +15,7 @@ use Rattle.trace.specs.Faults.{value_rung, start_rung, supply_rung, equal_rung, 
 use Rattle.trace.specs.Right.{Framed, TraceRight}
 use Rattle.trace.proofs.Passed.{Passed, trace_passed}
 use Rattle.trace.proofs.EntryTests.{value_ok_means, values_alone_means, index_ok_means}
+use Rattle.std.proofs.Common.{Ok}
 
 module _ (s : List ℕ) where
   -- 1 to 4, both ways
@@ -76,7 +76,7 @@ module _ (s : List ℕ) where
       }
 
   -- a trace whose things are all in order passes
-  passes : Passed s → least (trace_rungs s) ≡ Pass
+  passes : Passed s → least (trace_rungs s) ≡ Ok tt
   passes p =
       let n = p.entered in
       frame_right 2 s (counts_ok s) (length_ok s) _ n.frame
@@ -87,5 +87,5 @@ module _ (s : List ℕ) where
       ∙ least_none
 
   -- 1 to 6 pass exactly if the trace has no fault
-  pub trace_passes : (least (trace_rungs s) ≡ Pass) ↔ TraceRight s
+  pub trace_passes : (least (trace_rungs s) ≡ Ok tt) ↔ TraceRight s
   trace_passes = (λ e. to (trace_passed s e), λ r. passes (from r))

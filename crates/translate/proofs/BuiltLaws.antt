@@ -9,7 +9,6 @@ use lib.ListN.{length, get_or, length-append}
 use borrow.Author.Tests.{eqb-true, eqb-false, not-true, not-false}
 use Rattle.base.specs.Pick.{either}
 use Rattle.answers.specs.Ladder.{least}
-use Rattle.answers.specs.declared.Check.TheVariants.{Pass}
 use Rattle.entries.specs.Fields.{code}
 use Rattle.table_layout.specs.Layout.{terms, terms_at, term_field}
 use Rattle.table.specs.Faults.{table_rungs}
@@ -25,6 +24,7 @@ use Rattle.registers.specs.Held.{register_at, HeldTerms, settled}
 use Rattle.registers.proofs.HeldLaws.{held_built, held_unbuilt}
 use Rattle.translate.specs.Stepwise.{Making, built, making, after}
 use Rattle.decoded.proofs.Tabled.{counts_small, a_leaf, a_compound, IsCompound}
+use Rattle.std.proofs.Common.{Ok}
 
 -- ── The bound on the depth ──
 
@@ -83,7 +83,7 @@ pub built_grows : (s : List ℕ) (i : ℕ) (ms : List Meaning) → length (built
 unfolding built
 built_grows s i ms = term_grows (entries_of s) (suc i) i ms
 
-module _ (s : List ℕ) (e : least (table_rungs s) ≡ Pass) where
+module _ (s : List ℕ) (e : least (table_rungs s) ≡ Ok tt) where
   -- any bound that is high enough
   pub built_any : (n i : ℕ) → i < n → i < terms s → (ms : List Meaning) → build_term signature1 (entries_of s) n i ms ≡ built s i ms
   unfolding built entries_of

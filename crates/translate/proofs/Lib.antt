@@ -2,6 +2,7 @@
 pub mod BuiltLaws
 pub mod Writing
 pub mod Building
+pub mod Giving
 pub mod StepLaws
 pub mod StepWriting
 pub mod StepsLaws

@@ -2,15 +2,11 @@
 use mathlib.Core.Path.{◌≡◌, refl, sym, ◌∙◌}
 use mathlib.Core.Logic.{◌⊎◌, inl, inr}
 use mathlib.Core.List.{List, [], ◌∷◌, ◌++◌, map, append-nil, append_assoc}
-use Prim.Native.Nat.{ℕ, zero, suc, ◌*◌, ◌<◌, ◌≤◌}
+use Prim.Native.Nat.{ℕ, zero, suc, ◌<◌, ◌≤◌}
 use native.Mathlib.Omega.{arith}
-use lib.ListN.{length}
 use Rattle.answers.specs.Ladder.{least}
-use Rattle.answers.specs.declared.Check.TheVariants.{Pass}
 use Rattle.base.specs.Bytes.{byte}
 use Rattle.codes.specs.Rows.{cell}
-use Rattle.buffers.specs.Over.{over, over_if}
-use Rattle.buffers.proofs.OverLaws.{over_fits}
 use Rattle.entries.specs.Fields.{code}
 use Rattle.table_layout.specs.Layout.{terms, steps, steps_at, step_field}
 use Rattle.table.specs.Faults.{table_rungs}
@@ -19,11 +15,11 @@ use Rattle.calculus.specs.Version1.{signature1}
 use Rattle.rendering.specs.Judge.{Meaning, symbol}
 use Rattle.rendering.specs.Translation.{build_each}
 use Rattle.decoded.specs.Table.{act_of}
-use Rattle.registers.specs.Held.{register_in}
 use Rattle.translate.specs.Stepwise.{built, after, operands_built, step_bound}
-use Rattle.translate.specs.Making.{state_bytes, step_stated_bytes}
+use Rattle.translate.specs.Making.{state_bytes}
 use Rattle.decoded.proofs.Tabled.{step_as, operand_there}
 use Rattle.translate.proofs.BuiltLaws.{two_after}
+use Rattle.std.proofs.Common.{Ok}
 
 module _ (s : List ℕ) (k : ℕ) where
   -- ── Its terms ──
@@ -60,7 +56,7 @@ module _ (s : List ℕ) (k : ℕ) where
   two_built (suc (suc (suc (suc (suc zero))))) c l p q r ms = operands_of 5 c ms ∙ two_after (built s) (step_field s k 0) (step_field s k 1) ms
   two_built (suc (suc (suc (suc (suc (suc op)))))) c l p q r ms = absurd (omega arith)
 
-  module _ (e : least (table_rungs s) ≡ Pass) (h : k < steps s) where
+  module _ (e : least (table_rungs s) ≡ Ok tt) (h : k < steps s) where
     pub first_there : (op : ℕ) → code s 1 (steps_at s) k ≡ op → op < 6 → ¬ (op ≡ 2) → step_field s k 0 < terms s
     unfolding cell byte
     first_there zero c l p = operand_there s e k 0 0 h (omega arith) c refl
@@ -107,12 +103,7 @@ module _ (s : List ℕ) (k : ℕ) where
   binds_one (suc (suc (suc (suc (suc zero))))) c l p q r ms = bound_of 5 c ms
   binds_one (suc (suc (suc (suc (suc (suc op)))))) c l p q r ms = absurd (omega arith)
 
-  -- ── Its statements ──
-
-  pub step_bytes_lem : (symbols array : List ℕ) (registers op p q x y : ℕ) → op ≡ code s 1 (steps_at s) k → p ≡ register_in s (step_field s k 0) symbols array registers
-      → q ≡ register_in s (step_field s k 1) symbols array registers → x ≡ step_field s k 2 → y ≡ step_field s k 3 → step_stated_bytes s k symbols array registers ≡ state_bytes op p q x y
-  unfolding step_stated_bytes
-  step_bytes_lem symbols array registers op p q x y a b c d e = rw (a, b, c, d, e)
+-- ── Its statements ──
 
 pub state_none : (op p q x y : ℕ) → 6 ≤ op → state_bytes op p q x y ≡ []
 unfolding state_bytes
@@ -123,7 +114,3 @@ state_none (suc (suc (suc zero))) p q x y h = absurd (omega arith)
 state_none (suc (suc (suc (suc zero)))) p q x y h = absurd (omega arith)
 state_none (suc (suc (suc (suc (suc zero))))) p q x y h = absurd (omega arith)
 state_none (suc (suc (suc (suc (suc (suc op)))))) p q x y h = refl
-
--- one statement is written to a buffer that has room for it
-pub one_wrote : {b w o : List ℕ} (v : List ℕ) → b ≡ w → length b ≤ length v → length w ≡ 4 → o ≡ over_if w v → (4 * 1 ≡ length b) × (o ≡ over b v)
-one_wrote {b} {w} v e h n p = rw e (sym n, p ∙ over_fits w v (rw e at h))

@@ -1,13 +1,11 @@
 -- A step as it is written: its terms, then its statements, then the registers of the symbols that it binds. Assumes that 1 to 9 pass.
-use mathlib.Core.Path.{◌≡◌, refl, ap}
+use mathlib.Core.Path.{◌≡◌, refl}
 use mathlib.Core.List.{List, map}
-use Prim.Native.Nat.{ℕ, zero, suc, ◌+◌, ◌-◌, ◌*◌, ◌<◌, ◌≤◌}
+use Prim.Native.Nat.{ℕ, zero, suc, ◌+◌, ◌<◌, ◌≤◌}
 use native.Mathlib.Omega.{arith}
-use lib.ListN.{length, take, drop, length-append, length-map}
-use borrow.Rule.Slice.PartMut.{put_mid}
+use lib.ListN.{length, length-append}
 use Rattle.answers.specs.Ladder.{least}
-use Rattle.answers.specs.declared.Check.TheVariants.{Pass}
-use Rattle.buffers.specs.Over.{over}
+use Rattle.buffers.specs.Over.{Appended}
 use Rattle.entries.specs.Fields.{code}
 use Rattle.table_layout.specs.Layout.{steps, steps_at, step_field}
 use Rattle.table.specs.Faults.{table_rungs}
@@ -20,16 +18,15 @@ use Rattle.entries.specs.Tiling.{joined}
 use Rattle.decoded.specs.Table.{act_of, step_at}
 use Rattle.decoded_list.specs.Bytes.{statement_bytes, statements_bytes, half_op}
 use Rattle.decoded.specs.Indexes.{entries_of, meaning_of}
-use Rattle.registers.specs.Held.{register_at, Held, HeldSymbols, HeldTerms, register_in}
-use Rattle.registers.proofs.HeldLaws.{symbols_kept}
+use Rattle.registers.specs.Held.{register_at, Held, register_in}
 use Rattle.registers.proofs.RegisterLaws.{register_right}
-use Rattle.translate.specs.Stepwise.{Making, after, operands_built, step_stated, step_bound, step_made}
-use Rattle.translate.specs.Making.{Ready, Done, state_bytes, step_stated_bytes}
+use Rattle.translate.specs.declared.Progress.{Progress}
+use Rattle.translate.specs.Stepwise.{Making, more, after, operands_built, step_stated, step_bound, step_made}
+use Rattle.translate.specs.Making.{Holds, Stands, Ready, state_bytes, step_stated_bytes}
 use Rattle.decoded.proofs.Tabled.{step_as, step_known}
-use Rattle.statement_counts.proofs.Counts.{few_due}
 use Rattle.translate.proofs.StepLaws.{first_there, second_there}
-use Rattle.decoded_list.proofs.FileLayout.{bytes_length}
-use Rattle.translate.proofs.Writing.{done_fits, ready_first, ready_second, ready_as, done_both}
+use Rattle.translate.proofs.Writing.{room_after, stated_after, ready_first, ready_second, stands_both, ready_as, stands_as}
+use Rattle.std.proofs.Common.{Ok}
 
 stated_of : (s : List ℕ) (k op : ℕ) → code s 1 (steps_at s) k ≡ op → (ns : List Meaning)
     → step_stated s k ns ≡ map (stated signature1 (entries_of s) ns) (dues_of signature1 halves (act_of op (step_field s k 0) (step_field s k 1) (step_field s k 2) (step_field s k 3)))
@@ -41,7 +38,7 @@ bytes_of : (s : List ℕ) (k op : ℕ) → code s 1 (steps_at s) k ≡ op → (s
 unfolding step_stated_bytes
 bytes_of s k op c symbols array registers = rw c
 
-module _ (s : List ℕ) (e : least (table_rungs s) ≡ Pass) (k : ℕ) (h : k < steps s) where
+module _ (s : List ℕ) (e : least (table_rungs s) ≡ Ok tt) (k : ℕ) (h : k < steps s) where
   -- what the code writes are the step's statements
   pub step_right : (ns : List Meaning) {symbols array : List ℕ} {registers : ℕ} → Held ns symbols array registers → step_stated_bytes s k symbols array registers ≡ statements_bytes (step_stated s k ns)
   unfolding stated dues_of map_act act_of statement_bytes half_op joined state_bytes register_at meaning_of
@@ -56,11 +53,6 @@ module _ (s : List ℕ) (e : least (table_rungs s) ≡ Pass) (k : ℕ) (h : k < 
       by_op (suc (suc (suc (suc (suc zero))))) c u = rw (stated_of s k 5 c ns, bytes_of s k 5 c symbols array registers, register_right s e (step_field s k 0) (first_there s k e h 5 c (omega arith) (λ z. absurd (omega arith))) ns t, register_right s e (step_field s k 1) (second_there s k e h 5 c (omega arith) (λ z. absurd (omega arith)) (λ z. absurd (omega arith)) (λ z. absurd (omega arith))) ns t)
       by_op (suc (suc (suc (suc (suc (suc op)))))) c u = absurd (omega arith)
 
-  -- the symbols that it binds are no compound terms
-  bound_kept : (ms : List Meaning) (z : List ℕ) → HeldTerms ms z → HeldTerms (step_bound s k ms) z
-  unfolding step_bound
-  bound_kept ms z t = symbols_kept ms (binders signature1 (step_at s k)) z t
-
   bound_grows : (ms : List Meaning) → length ms ≤ length (step_bound s k ms)
   unfolding step_bound
   bound_grows ms = rw (length-append ms (map symbol (binders signature1 (step_at s k)))) (omega arith)
@@ -73,39 +65,28 @@ module _ (s : List ℕ) (e : least (table_rungs s) ≡ Pass) (k : ℕ) (h : k < 
   unfolding step_made
   made_as ms = refl
 
-  module _ {symbols array out : List ℕ} {registers : ℕ} (ms : List Meaning) (r : Ready (step_made s k) ms symbols array registers out) where
-    both_ready : Ready (after (operands_built s k) states) ms symbols array registers out
-    both_ready = ready_as ms (made_as ms) r
+  module _ {r : Making} {p : Progress} {y o : List ℕ} (q : Ready (step_made s k) r p y o) where
+    both_ready : Ready (after (operands_built s k) states) r p y o
+    both_ready = ready_as (step_made s k) (after (operands_built s k) states) r (made_as r.1) q
 
-    pub operands_ready : Ready (operands_built s k) ms symbols array registers out
-    operands_ready = ready_first (operands_built s k) states ms (bound_grows (operands_built s k ms).1) both_ready
+    pub operands_ready : Ready (operands_built s k) r p y o
+    operands_ready = ready_first (operands_built s k) states r both_ready (bound_grows (operands_built s k r.1).1)
 
-    module _ {array₁ o : List ℕ} {a at : ℕ} (p : at ≡ 4 * a) (d : Done (operands_built s k ms) symbols array₁ (registers + a) out o a) where
-      states_ready : Ready states (operands_built s k ms).1 symbols array₁ (registers + a) (take (length o - at) (drop at o))
-      states_ready = ready_second (operands_built s k) states ms p both_ready d
+    -- its terms are built
+    module _ {p₁ : Progress} {o₁ : List ℕ} (d : Stands (more (operands_built s k) r) p₁ y o₁) where
+      states_ready : Ready states (more (operands_built s k) r) p₁ y o₁
+      states_ready = ready_second (operands_built s k) states r both_ready d
 
-      pub operands_fit : (registers + a ≤ 224) × (at ≤ length o)
-      operands_fit = done_fits ms p operands_ready d
+      statements_right : step_stated_bytes s k p₁.symbols p₁.terms p₁.registers ≡ statements_bytes (step_stated s k (operands_built s k r.1).1)
+      statements_right = step_right (operands_built s k r.1).1 d.holds
 
-      pub states_room : length (step_stated_bytes s k symbols array₁ (registers + a)) ≤ length (take (length o - at) (drop at o))
-      states_room = rw (step_right (operands_built s k ms).1 d.holds, bytes_length (step_stated s k (operands_built s k ms).1)) states_ready.room
+      pub states_room : p₁.at + length (step_stated_bytes s k p₁.symbols p₁.terms p₁.registers) ≤ length o₁
+      states_room = rw statements_right (room_after d (step_stated s k (operands_built s k r.1).1) states_ready.fits.room)
 
-      -- one statement, or two
-      pub few : (b : ℕ) → 4 * b ≡ length (step_stated_bytes s k symbols array₁ (registers + a)) → b ≤ 2
-      unfolding step_stated
-      few b c =
-          let ns = (operands_built s k ms).1 in
-          omega (arith, c, ap length (step_right ns d.holds), bytes_length (step_stated s k ns), length-map (dues_of signature1 halves (step_at s k)) (stated signature1 (entries_of s) ns), few_due (step_at s k))
+      pub few_given : p₁.registers < 254
+      few_given = omega (arith, d.holds.count, bound_grows (operands_built s k r.1).1, states_ready.fits.few)
 
-      pub step_done : {symbols' ys : List ℕ} (b : ℕ) {registers' : ℕ} → 4 * b ≡ length (step_stated_bytes s k symbols array₁ (registers + a)) → ys ≡ over (step_stated_bytes s k symbols array₁ (registers + a)) (take (length o - at) (drop at o))
-          → HeldSymbols (step_bound s k (operands_built s k ms).1) symbols' → registers' ≡ length (step_bound s k (operands_built s k ms).1)
-          → Done (step_made s k ms) symbols' array₁ registers' out (put_mid at (length o - at) o ys) (a + b)
-      step_done {symbols'} {ys} b {registers'} c w t n =
-          let q = step_right (operands_built s k ms).1 d.holds in
-          let l = bytes_length (step_stated s k (operands_built s k ms).1) in
-          let u : Done (states (operands_built s k ms).1) symbols' array₁ registers' (take (length o - at) (drop at o)) ys b = record {
-            count = omega (arith, ap length q);
-            holds = record { of_symbols = t; of_terms = bound_kept (operands_built s k ms).1 array₁ d.holds.of_terms; count = n };
-            written = rw q at w;
-          } in
-          rw (made_as ms) (done_both p d u)
+      pub step_done : {p₂ : Progress} {o₂ : List ℕ} → Appended (step_stated_bytes s k p₁.symbols p₁.terms p₁.registers) p₁.at o₁ o₂ p₂.at → Holds (step_bound s k (operands_built s k r.1).1) p₂
+          → Stands (more (step_made s k) r) p₂ y o₂
+      step_done a h =
+          stands_as (step_made s k) (after (operands_built s k) states) r (made_as r.1) (stands_both (operands_built s k) states r (stated_after d (step_stated s k (operands_built s k r.1).1) (rw statements_right at a) h))

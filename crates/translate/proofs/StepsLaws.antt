@@ -1,15 +1,12 @@
 -- The steps one after the other: one step more, and how far the loop has come. Assumes that 1 to 9 pass.
 use mathlib.Core.Path.{◌≡◌, refl, sym, ap, ◌∙◌}
 use mathlib.Core.List.{List, [], ◌∷◌, ◌++◌, map, append-nil, append_assoc}
-use Prim.Native.Nat.{ℕ, suc, ◌+◌, ◌-◌, ◌*◌, ◌<◌, ◌≤◌}
+use Prim.Native.Nat.{ℕ, suc, ◌+◌, ◌-◌, ◌<◌, ◌≤◌}
 use native.Mathlib.Omega.{arith}
 use native.Mathlib.Numerals.{add-one}
-use lib.ListN.{length, take, drop, length-append}
-use borrow.Rule.Slice.PartMut.{put_mid}
+use lib.ListN.{length, length-append}
 use Rattle.answers.specs.Ladder.{least}
-use Rattle.answers.specs.declared.Check.TheVariants.{Pass}
 use Rattle.buffers.specs.Over.{over}
-use Rattle.buffers.proofs.Parts.{part_length}
 use Rattle.table_layout.specs.Layout.{terms, steps}
 use Rattle.table.specs.Faults.{table_rungs}
 use Rattle.calculus.specs.Terms.{Act, operands, binders, Statement}
@@ -27,11 +24,13 @@ use Rattle.decoded.proofs.Shapes.{step_uses}
 use Rattle.decoded.proofs.Holding.{entries_length}
 use Rattle.decoded_list.specs.Bytes.{statements_bytes}
 use Rattle.decoded.specs.Indexes.{entries_of}
-use Rattle.registers.specs.Held.{at_start, Held}
-use Rattle.translate.specs.Stepwise.{Making, built, after, operands_built, step_stated, step_bound, step_made, steps_made}
-use Rattle.translate.specs.Making.{Ready, Done}
+use Rattle.registers.specs.Held.{at_start}
+use Rattle.translate.specs.declared.Progress.{Progress}
+use Rattle.translate.specs.Stepwise.{Making, built, more, after, operands_built, step_stated, step_bound, step_made, steps_made}
+use Rattle.translate.specs.Making.{Stands, Ready, AllReady}
 use Rattle.translate.proofs.BuiltLaws.{built_any, term_grows}
-use Rattle.translate.proofs.Writing.{done_length, done_fits, ready_first, ready_second, ready_as, done_both, done_nothing}
+use Rattle.translate.proofs.Writing.{twice, ready_first, ready_as}
+use Rattle.std.proofs.Common.{Ok}
 
 each_same : (f g : ℕ → List Meaning → Making) (l : List ℕ) → All (λ j. (ns : List Meaning) → f j ns ≡ g j ns) l → (ms : List Meaning) → build_each signature1 f l ms ≡ build_each signature1 g l ms
 unfolding build_each
@@ -56,19 +55,16 @@ unfolding steps_made
 grown s k n ms = steps_grow s (listed (step_at s) k n) ms
 
 -- how far the loop has come
-pub record Progress (s : List ℕ) (k at registers : ℕ) (symbols array out left : List ℕ) : Type 0 where
-  pub upto : k ≤ steps s
-  pub ss : List (Statement signature1)
-  pub ms : List Meaning
-  pub rest : steps_made s 0 (steps s) (at_start s) ≡ (ss ++ (steps_made s k (steps s - k) ms).0, (steps_made s k (steps s - k) ms).1)
-  pub done : Done (ss, ms) symbols array registers out left (length ss)
-  pub start : at ≡ 4 * length ss
+pub record Come (s : List ℕ) (k : ℕ) (p : Progress) (y out : List ℕ) : Type 0 where
+  pub made : Making
+  pub rest : more (steps_made s k (steps s - k)) made ≡ steps_made s 0 (steps s) (at_start s)
+  pub stands : Stands made p y out
 
-pub many : (s : List ℕ) → least (table_rungs s) ≡ Pass → length (entries_of s) ≡ terms s
+pub many : (s : List ℕ) → least (table_rungs s) ≡ Ok tt → length (entries_of s) ≡ terms s
 unfolding entries_of
 many s e = entries_length s
 
-module _ (s : List ℕ) (e : least (table_rungs s) ≡ Pass) where
+module _ (s : List ℕ) (e : least (table_rungs s) ≡ Ok tt) where
   operands_built_lem : (k : ℕ) → k < steps s → (ms : List Meaning) → build_each signature1 (build_term signature1 (entries_of s) (length (entries_of s))) (operands signature1 (step_at s k)) ms ≡ operands_built s k ms
   unfolding operands_built
   operands_built_lem k h ms =
@@ -82,63 +78,35 @@ module _ (s : List ℕ) (e : least (table_rungs s) ≡ Pass) where
   unfolding steps_made listed translate_from step_made step_stated step_bound
   steps_more k n h ms = rw (operands_built_lem k h ms, append_assoc)
 
-  -- at the start
-  pub begun : {symbols array out : List ℕ} {registers : ℕ} → Held (at_start s) symbols array registers → Progress s 0 0 registers symbols array out out
-  begun {symbols} {array} {out} {registers} h =
-      let z : registers + 0 ≡ registers = omega arith in
-      let y : steps s - 0 ≡ steps s = omega arith in
-      record { upto = omega arith; ss = []; ms = at_start s; rest = rw y; done = rw z at (done_nothing {out = out} h); start = refl }
+  module _ {p₀ : Progress} {y : List ℕ} (q : AllReady (steps_made s 0 (steps s)) (at_start s) p₀ y) where
+    -- at the start
+    pub begun : Come s 0 p₀ y y
+    begun = record { made = ([], at_start s); rest = let n : steps s - 0 ≡ steps s = omega arith in rw n; stands = q.stands }
 
-  module _ {symbols array out : List ℕ} {registers₀ : ℕ} {symbols₀ array₀ : List ℕ} (r : Ready (steps_made s 0 (steps s)) (at_start s) symbols₀ array₀ registers₀ out)
-      {k at registers : ℕ} {left : List ℕ} (p : Progress s k at registers symbols array out left) where
-    abbrev whole : List Meaning → Making
-    whole ns = (p.ss, p.ms)
+    module _ {k : ℕ} {p : Progress} {o : List ℕ} (c : Come s k p y o) where
+      module _ (h : k < steps s) where
+        one_more : (ms : List Meaning) → steps_made s k (steps s - k) ms ≡ after (step_made s k) (steps_made s (suc k) (steps s - suc k)) ms
+        one_more ms = let n : steps s - k ≡ suc (steps s - suc k) = omega arith in rw n (steps_more k (steps s - suc k) h ms)
 
-    all_ready : Ready (after whole (steps_made s k (steps s - k))) (at_start s) symbols₀ array₀ registers₀ out
-    all_ready = ready_as (at_start s) p.rest r
+        rest_ready : Ready (steps_made s k (steps s - k)) c.made p y o
+        rest_ready = record { stands = c.stands; fits = rw c.rest q.fits }
 
-    pub kept_length : length left ≡ length out
-    kept_length = done_length (omega (arith, all_ready.room, length-append p.ss (steps_made s k (steps s - k) p.ms).0)) p.done
+        pub step_ready : Ready (step_made s k) c.made p y o
+        step_ready =
+            ready_first (step_made s k) (steps_made s (suc k) (steps s - suc k)) c.made (ready_as (steps_made s k (steps s - k)) (after (step_made s k) (steps_made s (suc k) (steps s - suc k))) c.made (one_more c.made.1) rest_ready)
+            (grown s (suc k) (steps s - suc k) (step_made s k c.made.1).1)
 
-    pub part_there : at ≤ length left
-    part_there = (done_fits {f = whole} (at_start s) p.start (ready_first whole (steps_made s k (steps s - k)) (at_start s) more all_ready) p.done).1
-      where
-        more : length p.ms ≤ length (steps_made s k (steps s - k) p.ms).1
-        more = grown s k (steps s - k) p.ms
+        pub stepped : {p' : Progress} {o' : List ℕ} → Stands (more (step_made s k) c.made) p' y o' → Come s (k + 1) p' y o'
+        stepped d = record {
+          made = more (step_made s k) c.made;
+          rest = rw add-one (twice (step_made s k) (steps_made s (suc k) (steps s - suc k)) c.made ∙ ap (λ (v : Making). (c.made.0 ++ v.0, v.1)) (sym (one_more c.made.1)) ∙ c.rest);
+          stands = d;
+        }
 
-    module _ (h : k < steps s) where
-      both_ready : Ready (after (step_made s k) (steps_made s (suc k) (steps s - suc k))) p.ms symbols array registers (take (length left - at) (drop at left))
-      both_ready =
-          let q : steps s - k ≡ suc (steps s - suc k) = omega arith in
-          ready_as p.ms (rw q (steps_more k (steps s - suc k) h p.ms)) (ready_second whole (steps_made s k (steps s - k)) (at_start s) p.start all_ready p.done)
-
-      pub step_ready : Ready (step_made s k) p.ms symbols array registers (take (length left - at) (drop at left))
-      step_ready = ready_first (step_made s k) (steps_made s (suc k) (steps s - suc k)) p.ms (grown s (suc k) (steps s - suc k) (step_made s k p.ms).1) both_ready
-
-      pub stepped : {symbols' array' ys : List ℕ} {registers' n : ℕ} {at' : ℕ} → at' ≡ at + 4 * n → Done (step_made s k p.ms) symbols' array' registers' (take (length left - at) (drop at left)) ys n
-          → Progress s (k + 1) at' registers' symbols' array' out (put_mid at (length left - at) left ys)
-      stepped {n = n} a d =
-          let q : steps s - k ≡ suc (steps s - suc k) = omega arith in
-          let m = done_both p.start p.done d in
-          let t = length-append p.ss (step_made s k p.ms).0 in
-          let l : length p.ss + n ≡ length (p.ss ++ (step_made s k p.ms).0) = omega (arith, d.count) in
-          record {
-            upto = omega arith;
-            ss = p.ss ++ (step_made s k p.ms).0;
-            ms = (step_made s k p.ms).1;
-            rest = rw add-one (p.rest ∙ rw q (rw (steps_more k (steps s - suc k) h p.ms, append_assoc)));
-            done = rw l at m;
-            start = omega (arith, p.start, d.count);
-          }
-
-      -- the statements of a step fit what is left
-      pub step_small : {symbols' array' ys : List ℕ} {registers' n : ℕ} → Done (step_made s k p.ms) symbols' array' registers' (take (length left - at) (drop at left)) ys n → at + 4 * n ≤ length out
-      step_small d = omega (arith, d.count, part_there, part_length at left, step_ready.room, kept_length)
-
-    -- at the end
-    pub finished : steps s ≤ k → left ≡ over (statements_bytes (steps_made s 0 (steps s) (at_start s)).0) out
-    unfolding steps_made listed translate_from
-    finished h =
-        let q : steps s - k ≡ 0 = omega (arith, p.upto) in
-        let w : steps_made s 0 (steps s) (at_start s) ≡ (p.ss ++ [], p.ms) = rw q at p.rest in
-        p.done.written ∙ ap (λ (v : List (Statement signature1)). over (statements_bytes v) out) (sym (ap (λ (v : Making). v.0) w ∙ append-nil p.ss))
+      -- at the end
+      pub finished : steps s ≤ k → o ≡ over (statements_bytes (steps_made s 0 (steps s) (at_start s)).0) y
+      unfolding steps_made listed translate_from
+      finished h =
+          let n : steps s - k ≡ 0 = omega arith in
+          let w : (c.made.0 ++ [], c.made.1) ≡ steps_made s 0 (steps s) (at_start s) = rw n at c.rest in
+          c.stands.written ∙ ap (λ (v : List (Statement signature1)). over (statements_bytes v) y) (sym (append-nil c.made.0) ∙ ap (λ (v : Making). v.0) w)

@@ -1,38 +1,54 @@
 -- What each function of the translation needs and leaves, and the bytes that it writes. Assumes nothing: these are definitions.
-use Rattle.std.specs.Prelude.{◌≡◌, List, [], ◌∷◌, ℕ, zero, suc, ◌+◌, ◌*◌, ◌≤◌, length}
+use Rattle.std.specs.Prelude.{◌≡◌, List, [], ◌∷◌, ◌++◌, ℕ, zero, suc, ◌+◌, ◌*◌, ◌≤◌, length}
 use Rattle.entries.specs.Fields.{code}
 use Rattle.table_layout.specs.Layout.{terms_at, steps_at, term_field, step_field}
 use Rattle.buffers.specs.Over.{over}
 use Rattle.rendering.specs.Judge.{Meaning}
 use Rattle.decoded_list.specs.Bytes.{statements_bytes}
-use Rattle.registers.specs.Held.{HeldSymbols, Held, register_in}
-use Rattle.translate.specs.Stepwise.{Making, step_bound}
+use Rattle.registers.specs.Held.{Held, register_in}
+use Rattle.translate.specs.Stepwise.{Making, more, step_bound}
+use Rattle.translate.specs.declared.Progress.{Progress}
 
--- before something is made: its registers can be named, and the buffer has room for its statements
-pub record Ready (f : List Meaning → Making) (ms : List Meaning) (symbols terms : List ℕ) (registers : ℕ) (out : List ℕ) : Type 0 where
-  pub holds : Held ms symbols terms registers
-  pub fits : length (f ms).1 ≤ 224
-  pub room : 4 * length (f ms).0 ≤ length out
+-- the meanings are held
+abbrev pub Holds : List Meaning → Progress → Type 0
+Holds ms p = Held ms p.symbols p.terms p.registers
 
--- some meanings are held
-abbrev pub SomeReady : (List Meaning → Making) → List ℕ → List ℕ → ℕ → List ℕ → Type 0
-SomeReady f symbols terms registers out = (ms : List Meaning) × Ready f ms symbols terms registers out
+-- r is made: its statements are written over y, and its meanings are held
+pub record Stands (r : Making) (p : Progress) (y out : List ℕ) : Type 0 where
+  pub holds : Holds r.1 p
+  pub ends : p.at ≡ length (statements_bytes r.0)
+  pub written : out ≡ over (statements_bytes r.0) y
 
--- after it is made: its n statements are written, and the arrays hold the registers that it gives
-pub record Done (r : Making) (symbols terms : List ℕ) (registers : ℕ) (out left : List ℕ) (n : ℕ) : Type 0 where
-  pub count : n ≡ length r.0
-  pub holds : Held r.1 symbols terms registers
-  pub written : left ≡ over (statements_bytes r.0) out
+-- r can be made: its registers can be named, and the buffer y has room for its statements
+pub record Fits (r : Making) (y : List ℕ) : Type 0 where
+  pub few : length r.1 ≤ 224
+  pub room : 4 * length r.0 ≤ length y
 
--- whatever meanings the arrays hold, what is made follows them
-abbrev pub Makes : (List Meaning → Making) → List ℕ → List ℕ → List ℕ → List ℕ → ℕ → ℕ → List ℕ → List ℕ → ℕ → Type 0
-Makes f symbols symbols' terms terms' registers registers' out left n =
-    (ms : List Meaning) → Ready f ms symbols terms registers out → Done (f ms) symbols' terms' registers' out left n
+-- r is made, and f can be made after it
+pub record Ready (f : List Meaning → Making) (r : Making) (p : Progress) (y out : List ℕ) : Type 0 where
+  pub stands : Stands r p y out
+  pub fits : Fits (more f r) y
 
--- whatever meanings the array holds, the symbols that a step binds follow them
-abbrev pub BindsStep : List ℕ → ℕ → List ℕ → List ℕ → ℕ → ℕ → Type 0
-BindsStep s k symbols symbols' registers registers' =
-    (ms : List Meaning) → HeldSymbols ms symbols → registers ≡ length ms → HeldSymbols (step_bound s k ms) symbols' × (registers' ≡ length (step_bound s k ms))
+-- something is made, and f can be made after it
+abbrev pub SomeReady : (List Meaning → Making) → Progress → List ℕ → Type 0
+SomeReady f p out = (r : Making) × (y : List ℕ) × Ready f r p y out
+
+-- nothing is made but the meanings at the start, and f can be made
+abbrev pub AllReady : (List Meaning → Making) → List Meaning → Progress → List ℕ → Type 0
+AllReady f ms p out = Ready f ([], ms) p out out
+
+-- whatever is made, f is made after it
+abbrev pub Makes : (List Meaning → Making) → Progress → Progress → List ℕ → List ℕ → Type 0
+Makes f p p' out out' = (r : Making) (y : List ℕ) → Ready f r p y out → Stands (more f r) p' y out'
+
+-- the next register means m, whatever meanings are held
+pub record Gives (m : Meaning) (p p' : Progress) : Type 0 where
+  pub next : p'.registers ≡ p.registers + 1
+  pub holds : (ms : List Meaning) → Holds ms p → Holds (ms ++ (m ∷ [])) p'
+
+-- the next registers are those of the symbols that a step binds, whatever meanings are held
+abbrev pub BindsStep : List ℕ → ℕ → Progress → Progress → Type 0
+BindsStep s k p p' = (ms : List Meaning) → Holds ms p → Holds (step_bound s k ms) p'
 
 -- ── By bytes ──
 

@@ -1,8 +1,6 @@
 -- The translation piece by piece, as the code goes: what one term adds, one step, and the steps from one on. Assumes nothing:
 -- these are definitions.
-use Rattle.std.specs.Prelude.{List, [], ◌∷◌, ◌++◌, map, ℕ, suc}
-use Rattle.answers.specs.declared.Check.{Check}
-use Rattle.answers.specs.declared.Check.TheVariants.{Pass, Refuse}
+use Rattle.std.specs.Prelude.{List, [], ◌∷◌, ◌++◌, map, ℕ, suc, Ok, Err}
 use Rattle.buffers.specs.Over.{over_if}
 use Rattle.entries.specs.Fields.{code}
 use Rattle.table_layout.specs.Layout.{terms_at, term_field}
@@ -15,6 +13,7 @@ use Rattle.entries.specs.Tiling.{listed}
 use Rattle.decoded.specs.Table.{step_at}
 use Rattle.decoded.specs.Indexes.{entries_of, kind_of}
 use Rattle.registers.specs.Held.{register_at}
+use Rattle.answers.specs.Ladder.{Check}
 
 -- statements, and what the registers mean after them
 abbrev pub Making : Type 0
@@ -29,9 +28,13 @@ unfoldable pub making : List ℕ → ℕ → List Meaning → Making
 making s i ms =
     (build (build2 (kind_of (code s 0 (terms_at s) i)) (register_at s ms (term_field s i 0)) (register_at s ms (term_field s i 1))) ∷ [], ms ++ (term i ∷ []))
 
+-- one thing more is made
+abbrev pub more : (List Meaning → Making) → Making → Making
+more f r = let q = f r.1 in (r.0 ++ q.0, q.1)
+
 -- one thing is made after the other
 abbrev pub after : (List Meaning → Making) → (List Meaning → Making) → List Meaning → Making
-after f g ms = let r = f ms in let q = g r.1 in (r.0 ++ q.0, q.1)
+after f g ms = more g (f ms)
 
 -- the terms of step k are built
 unfoldable pub operands_built : List ℕ → ℕ → List Meaning → Making
@@ -55,5 +58,5 @@ steps_made s k n ms = translate_from signature1 (entries_of s) halves (listed (s
 
 -- the buffer z after w was to be written: nothing is written where the table is refused, or where w does not fit
 abbrev pub wrote_if : Check → List ℕ → List ℕ → List ℕ
-wrote_if Pass w z = over_if w z
-wrote_if (Refuse x) w z = z
+wrote_if (Ok tt) w z = over_if w z
+wrote_if (Err x) w z = z

@@ -3,9 +3,8 @@
 // once for each place that names it.
 #![tactic(auto)]
 
-ghost use Rattle.std.specs.Prelude.{◌≡◌, ◌+◌, ◌*◌, ◌<◌, ◌≤◌, length};
+ghost use Rattle.std.specs.Prelude.{◌≡◌, Ok, ◌+◌, ◌*◌, ◌<◌, ◌≤◌, length};
 ghost use Rattle.answers.specs.Ladder.{least};
-ghost use Rattle.answers.specs.declared.Check.TheVariants.{Pass};
 ghost use Rattle.entries.specs.Fields.{code};
 ghost use Rattle.table_layout.specs.Layout.{terms as terms_of, steps, terms_at, steps_at};
 ghost use Rattle.table.specs.Faults.{table_rungs};
@@ -13,255 +12,164 @@ ghost use Rattle.calculus.specs.Version1.{signature1};
 ghost use Rattle.rendering.specs.Rendering.{halves};
 ghost use Rattle.rendering.specs.Translation.{translation};
 ghost use Rattle.decoded.specs.Table.{table_of};
-ghost use Rattle.buffers.specs.Over.{over};
+ghost use Rattle.buffers.specs.Over.{over, Appended};
 ghost use Rattle.decoded_list.specs.Bytes.{statements_bytes};
-ghost use Rattle.registers.specs.Held.{at_start, Noted};
-ghost use Rattle.translate.specs.Stepwise.{built, after, operands_built, step_made, steps_made, wrote_if};
-ghost use Rattle.translate.specs.Making.{Ready, SomeReady, Makes, BindsStep, make_bytes, step_stated_bytes};
+ghost use Rattle.registers.specs.Held.{at_start, register_in};
+ghost use Rattle.rendering.specs.Judge.{symbol, term};
+ghost use Rattle.translate.specs.Stepwise.{built, operands_built, step_made, steps_made, wrote_if};
+ghost use Rattle.translate.specs.Making.{AllReady, SomeReady, Makes, Gives, BindsStep, make_bytes, step_stated_bytes};
 
 use answers::Check;
 
-// What a step adds: its statements, and the registers that are given after it.
+// How far the translation has come: the marks of the symbols and of the compound terms that have registers, how many registers are given,
+// and where the next statement goes.
 #[derive(Drop)]
-pub struct Added {
-    pub statements: u8,
-    pub registers: u8,
+struct Progress {
+    symbols: [u8; 256],
+    terms: [u8; 256],
+    registers: u8,
+    at: usize,
 }
 
-// The statement that makes term i of its parts.
-fn make_term(
-    s: &[u8],
-    i: u8,
-    symbols: &[u8; 256],
-    terms: &mut [u8; 256],
-    registers: u8,
-    out: &mut [u8],
-)
-    requires { (code s.now 0 (terms_at s.now) i < 3) × (registers < 255) × (4 ≤ length out.old) }
-    ensures written { out.new ≡ over (make_bytes s.now i symbols.now terms.old registers) out.old }
-    ensures noted { Noted terms.old terms.new i (registers + 1) }
+// The register of term i, the next one where there is none.
+fn register_of(s: &[u8], i: u8, progress: &Progress) -> u8
+    ensures { result ≡ register_in s.now i progress.now.symbols progress.now.terms progress.now.registers }
 {
-    let a = table_layout::term_field(s, i, 0);
-    let p = registers::register_of(s, a, symbols, terms, registers);
-    let b = table_layout::term_field(s, i, 1);
-    let q = registers::register_of(s, b, symbols, terms, registers);
-    buffers::put_four(out, table_layout::term_code(s, i) + 6, p, q, 0);
-    registers::note(terms, i, registers + 1);
+    registers::register_of(s, i, &progress.symbols, &progress.terms, progress.registers)
 }
 
-// Builds term i, unless it is built: its parts first. Answers how many statements that takes; each gives a register.
-fn build_term(
-    s: &[u8],
-    i: u8,
-    symbols: &[u8; 256],
-    terms: &mut [u8; 256],
-    registers: u8,
-    out: &mut [u8],
-) -> u8
-    requires { (least (table_rungs s.now) ≡ Pass) × (i < terms_of s.now) × SomeReady (built s.now i) symbols.now terms.old registers out.old }
-    ensures { Makes (built s.now i) symbols.now symbols.now terms.old terms.new registers (registers + result) out.old out.new result }
+// The statement that makes term i of its parts; the next register is its.
+#[tactic(auto, unfolding(crate::specs::Making::make_bytes))]
+fn make_term(s: &[u8], i: u8, progress: &mut Progress, out: &mut [u8])
+    requires { (code s.now 0 (terms_at s.now) i < 3) × (progress.old.registers < 255) × (progress.old.at + 4 ≤ length out.old) }
+    ensures written { Appended (make_bytes s.now i progress.old.symbols progress.old.terms progress.old.registers) progress.old.at out.old out.new progress.new.at }
+    ensures given { Gives (term i) progress.old progress.new }
 {
-    if registers::is_settled(s, i, terms) {
-        return 0;
+    let p = register_of(s, table_layout::term_field(s, i, 0), progress);
+    let q = register_of(s, table_layout::term_field(s, i, 1), progress);
+    let op = table_layout::term_code(s, i) + 6;
+    progress.at = buffers::append(out, progress.at, &[op, p, q, 0]);
+    progress.registers += 1;
+    registers::note(&mut progress.terms, i, progress.registers);
+}
+
+// Builds term i, unless it is built: its parts first.
+// That the table has passed stays a clause here and below: with a struct that says so, each `s.now` would be `table.now.s.now`.
+fn build_term(s: &[u8], i: u8, progress: &mut Progress, out: &mut [u8])
+    requires { (least (table_rungs s.now) ≡ Ok tt) × (i < terms_of s.now) × SomeReady (built s.now i) progress.old out.old }
+    ensures { Makes (built s.now i) progress.old progress.new out.old out.new }
+{
+    if registers::is_settled(s, i, &progress.terms) {
+        return;
     }
     let left = table_layout::term_field(s, i, 0);
-    let a = build_term(s, left, symbols, terms, registers, out);
     let right = table_layout::term_field(s, i, 1);
-    let b = build_term(
-        s,
-        right,
-        symbols,
-        terms,
-        registers + a,
-        &mut out[4 * base::wide(a)..],
-    );
-    let c = a + b;
-    make_term(
-        s,
-        i,
-        symbols,
-        terms,
-        registers + c,
-        &mut out[4 * base::wide(c)..],
-    );
-    c + 1
-}
-
-// Builds two terms, one after the other.
-fn build_two(
-    s: &[u8],
-    i: u8,
-    j: u8,
-    symbols: &[u8; 256],
-    terms: &mut [u8; 256],
-    registers: u8,
-    out: &mut [u8],
-) -> u8
-    requires { (least (table_rungs s.now) ≡ Pass) × (i < terms_of s.now) × (j < terms_of s.now) × SomeReady (after (built s.now i) (built s.now j)) symbols.now terms.old registers out.old }
-    ensures { Makes (after (built s.now i) (built s.now j)) symbols.now symbols.now terms.old terms.new registers (registers + result) out.old out.new result }
-{
-    let a = build_term(s, i, symbols, terms, registers, out);
-    let b = build_term(
-        s,
-        j,
-        symbols,
-        terms,
-        registers + a,
-        &mut out[4 * base::wide(a)..],
-    );
-    a + b
+    build_term(s, left, progress, out);
+    build_term(s, right, progress, out);
+    make_term(s, i, progress, out);
 }
 
 // Builds the terms of step k.
-fn build_operands(
-    s: &[u8],
-    k: u8,
-    symbols: &[u8; 256],
-    terms: &mut [u8; 256],
-    registers: u8,
-    out: &mut [u8],
-) -> u8
-    requires { (least (table_rungs s.now) ≡ Pass) × (k < steps s.now) × SomeReady (operands_built s.now k) symbols.now terms.old registers out.old }
-    ensures { Makes (operands_built s.now k) symbols.now symbols.now terms.old terms.new registers (registers + result) out.old out.new result }
+fn build_operands(s: &[u8], k: u8, progress: &mut Progress, out: &mut [u8])
+    requires { (least (table_rungs s.now) ≡ Ok tt) × (k < steps s.now) × SomeReady (operands_built s.now k) progress.old out.old }
+    ensures { Makes (operands_built s.now k) progress.old progress.new out.old out.new }
 {
-    let op = table_layout::step_code(s, k);
-    if op == 2 {
-        return 0;
-    }
     let a = table_layout::step_field(s, k, 0);
-    if op == 1 {
-        return build_term(s, a, symbols, terms, registers, out);
-    }
-    if op == 4 {
-        return build_term(s, a, symbols, terms, registers, out);
-    }
     let b = table_layout::step_field(s, k, 1);
-    build_two(s, a, b, symbols, terms, registers, out)
+    match table_layout::step_code(s, k) {
+        2 => {}
+        1 | 4 => build_term(s, a, progress, out),
+        _ => {
+            build_term(s, a, progress, out);
+            build_term(s, b, progress, out);
+        }
+    }
 }
 
-// Writes the statements of step k, whose terms are built. Answers how many there are.
-fn state_step(
-    s: &[u8],
-    k: u8,
-    symbols: &[u8; 256],
-    terms: &[u8; 256],
-    registers: u8,
-    out: &mut [u8],
-) -> u8
-    requires { length (step_stated_bytes s.now k symbols.now terms.now registers) ≤ length out.old }
-    ensures counted { 4 * result ≡ length (step_stated_bytes s.now k symbols.now terms.now registers) }
-    ensures written { out.new ≡ over (step_stated_bytes s.now k symbols.now terms.now registers) out.old }
+// Writes the statements of step k, whose terms are built. Answers the place after them.
+#[tactic(auto, using(crate::proofs::StepLaws::state_none), unfolding(crate::specs::Making::state_bytes, crate::specs::Making::step_stated_bytes, buffers::specs::Over::over))]
+fn state_step(s: &[u8], k: u8, progress: &Progress, out: &mut [u8]) -> usize
+    requires { progress.now.at + length (step_stated_bytes s.now k progress.now.symbols progress.now.terms progress.now.registers) ≤ length out.old }
+    ensures { Appended (step_stated_bytes s.now k progress.now.symbols progress.now.terms progress.now.registers) progress.now.at out.old out.new result }
 {
-    let op = table_layout::step_code(s, k);
-    let a = table_layout::step_field(s, k, 0);
-    let p = registers::register_of(s, a, symbols, terms, registers);
-    let b = table_layout::step_field(s, k, 1);
-    let q = registers::register_of(s, b, symbols, terms, registers);
+    let p = register_of(s, table_layout::step_field(s, k, 0), progress);
+    let q = register_of(s, table_layout::step_field(s, k, 1), progress);
     let x = table_layout::step_field(s, k, 2);
-    match op {
-        0 => {
-            buffers::put_four(out, 0, p, q, 0);
-            1
-        }
-        1 => {
-            buffers::put_four(out, 1, p, 0, x);
-            1
-        }
-        2 => {
-            buffers::put_four(out, 2, 0, 0, x);
-            1
-        }
-        3 => {
-            buffers::put_four(out, 3, p, q, 0);
-            1
-        }
-        4 => {
-            buffers::put_four(out, 4, p, 0, x);
-            buffers::put_four(&mut out[4..], 5, p, 0, table_layout::step_field(s, k, 3));
-            2
-        }
-        5 => {
-            buffers::put_four(out, 6, p, q, x);
-            1
-        }
-        6..=255 => 0,
+    let y = table_layout::step_field(s, k, 3);
+    let at = progress.at;
+    // Each arm appends: bytes lent out of an arm are past the borrow checker.
+    match table_layout::step_code(s, k) {
+        0 => buffers::append(out, at, &[0, p, q, 0]),
+        1 => buffers::append(out, at, &[1, p, 0, x]),
+        2 => buffers::append(out, at, &[2, 0, 0, x]),
+        3 => buffers::append(out, at, &[3, p, q, 0]),
+        4 => buffers::append(out, at, &[4, p, 0, x, 5, p, 0, y]),
+        5 => buffers::append(out, at, &[6, p, q, x]),
+        6..=255 => at,
     }
 }
 
-// Notes the registers of the symbols that step k binds. Answers how many registers are given then.
-fn bind_step(s: &[u8], k: u8, symbols: &mut [u8; 256], registers: u8) -> u8
-    requires { (code s.now 1 (steps_at s.now) k < 6) × (registers < 254) }
-    ensures { BindsStep s.now k symbols.old symbols.new registers result }
+// The next register is symbol x's.
+fn bind(progress: &mut Progress, x: u8)
+    requires { progress.old.registers < 255 }
+    ensures given { Gives (symbol x) progress.old progress.new }
+    ensures at { progress.new.at ≡ progress.old.at }
 {
-    let op = table_layout::step_code(s, k);
-    if op == 0 {
-        return registers;
+    progress.registers += 1;
+    registers::note(&mut progress.symbols, x, progress.registers);
+}
+
+// The next registers are those of the symbols that step k binds.
+fn bind_step(s: &[u8], k: u8, progress: &mut Progress)
+    requires { (code s.now 1 (steps_at s.now) k < 6) × (progress.old.registers < 254) }
+    ensures bound { BindsStep s.now k progress.old progress.new }
+    ensures at { progress.new.at ≡ progress.old.at }
+{
+    let x = table_layout::step_field(s, k, 2);
+    match table_layout::step_code(s, k) {
+        0 | 3 => {}
+        4 => {
+            bind(progress, x);
+            bind(progress, table_layout::step_field(s, k, 3));
+        }
+        _ => bind(progress, x),
     }
-    if op == 3 {
-        return registers;
-    }
-    registers::note(symbols, table_layout::step_field(s, k, 2), registers + 1);
-    if op == 4 {
-        registers::note(symbols, table_layout::step_field(s, k, 3), registers + 2);
-        return registers + 2;
-    }
-    registers + 1
 }
 
 // Step k: its terms are built, then come its statements.
-fn write_step(
-    s: &[u8],
-    k: u8,
-    symbols: &mut [u8; 256],
-    terms: &mut [u8; 256],
-    registers: u8,
-    out: &mut [u8],
-) -> Added
-    requires { (least (table_rungs s.now) ≡ Pass) × (k < steps s.now) × SomeReady (step_made s.now k) symbols.old terms.old registers out.old }
-    ensures { Makes (step_made s.now k) symbols.old symbols.new terms.old terms.new registers result.registers out.old out.new result.statements }
+fn write_step(s: &[u8], k: u8, progress: &mut Progress, out: &mut [u8])
+    requires { (least (table_rungs s.now) ≡ Ok tt) × (k < steps s.now) × SomeReady (step_made s.now k) progress.old out.old }
+    ensures { Makes (step_made s.now k) progress.old progress.new out.old out.new }
 {
-    let a = build_operands(s, k, symbols, terms, registers, out);
-    let b = state_step(
-        s,
-        k,
-        symbols,
-        terms,
-        registers + a,
-        &mut out[4 * base::wide(a)..],
-    );
-    let after = bind_step(s, k, symbols, registers + a);
-    Added {
-        statements: a + b,
-        registers: after,
-    }
+    build_operands(s, k, progress, out);
+    progress.at = state_step(s, k, progress, out);
+    bind_step(s, k, progress);
 }
 
 // All steps.
-fn write_steps(s: &[u8], symbols: &mut [u8; 256], terms: &mut [u8; 256], first: u8, out: &mut [u8])
-    requires { (least (table_rungs s.now) ≡ Pass) × Ready (steps_made s.now 0 (steps s.now)) (at_start s.now) symbols.old terms.old first out.old }
+fn write_steps(s: &[u8], progress: &mut Progress, out: &mut [u8])
+    requires { (least (table_rungs s.now) ≡ Ok tt) × AllReady (steps_made s.now 0 (steps s.now)) (at_start s.now) progress.old out.old }
     ensures { out.new ≡ over (statements_bytes (steps_made s.now 0 (steps s.now) (at_start s.now)).0) out.old }
 {
-    let n = table_layout::step_count(s);
-    let mut registers = first;
-    let mut at = 0;
-    let mut k = 0;
-    while k < n {
-        let m = write_step(s, k, symbols, terms, registers, &mut out[at..]);
-        at += 4 * base::wide(m.statements);
-        registers = m.registers;
-        k += 1;
+    for k in 0..table_layout::step_count(s) {
+        write_step(s, k, progress, out);
     }
 }
 
 // Writes the statements of a table without faults 1 to 9 into a buffer that has room for them.
 fn put_statements(s: &[u8], out: &mut [u8])
-    requires { (least (table_rungs s.now) ≡ Pass) × (4 * length (translation signature1 halves (table_of s.now)) ≤ length out.old) }
+    requires { (least (table_rungs s.now) ≡ Ok tt) × (4 * length (translation signature1 halves (table_of s.now)) ≤ length out.old) }
     ensures { out.new ≡ over (statements_bytes (translation signature1 halves (table_of s.now))) out.old }
 {
-    let mut symbols = [0u8; 256];
-    let first = registers::note_free(s, &mut symbols);
-    let mut terms = [0u8; 256];
-    write_steps(s, &mut symbols, &mut terms, first, out);
+    let mut symbols = [0; 256];
+    let registers = registers::note_free(s, &mut symbols);
+    let mut progress = Progress {
+        symbols,
+        terms: [0; 256],
+        registers,
+        at: 0,
+    };
+    write_steps(s, &mut progress, out);
 }
 
 // Writes the statements of a table without faults 1 to 9 into a buffer that has room for them, else nothing.
@@ -269,7 +177,7 @@ pub fn write_statements(s: &[u8], out: &mut [u8])
     ensures { out.new ≡ wrote_if (least (table_rungs s.now)) (statements_bytes (translation signature1 halves (table_of s.now))) out.old }
 {
     let a = table::check_table(s);
-    let Check::Pass = a else {
+    let Ok(()) = a else {
         return;
     };
     if 4 * statement_counts::statement_count(s) <= out.len() {

@@ -17,11 +17,19 @@ use lib.Dec.{leb}
 use borrow.Author.Tests.{leb-true, leb-false}
 use Rattle.buffers.specs.Over.{over, over_if}
 use Rattle.buffers.proofs.OverLaws.{over_fits}
-use Rattle.type_bytes.specs.Ends.{Past}
+use Rattle.std.specs.Prelude.{unwrap_or}
+use Rattle.type_bytes.specs.Lower.{End}
+use Rattle.type_bytes.specs.Ends.{end_of, Past}
 use Rattle.type_bytes.specs.Meets.{Copied}
-use Rattle.type_bytes.specs.declared.Lower.TheVariants.{Met, Apart}
+use Rattle.std.proofs.Common.{Bor, Some, None}
+use Rattle.std.proofs.lemmas.List.{get_or_read}
+use Rattle.std.specs.Slice.{IsItemAt}
 
 -- ── The first byte ──
+
+-- the byte that `get` has found
+pub read_at : (s : List ℕ) (p : ℕ) (b : Bor ℕ) → IsItemAt s p (Some b) → (p < length s) × (b.now ≡ get_or s p 0)
+read_at s p b (_, e, _, (h, _), _) = (h, get_or_read s p b.now h e 0)
 
 -- the code of a type
 unfoldable pub tag : T → ℕ
@@ -102,7 +110,7 @@ as_cipher (Cipher shared a) e = (a, refl)
 pub past_none : (s : List ℕ) (p : ℕ) → EndIs codes1 s p none → Past s p (length s)
 past_none s p w = record { on = omega arith; rest = λ t x e. absurd (w t x e) }
 
-pub copied_none : (s : List ℕ) (p : ℕ) (z : List ℕ) → EndIs codes1 s p none → Copied s p z z Apart
+pub copied_none : (s : List ℕ) (p : ℕ) (z : List ℕ) → EndIs codes1 s p none → Copied s p z z None
 copied_none s p z w = record { fits = tt; wrote = λ t x i. absurd (w t x i) }
 
 module _ (s : List ℕ) (p e : ℕ) (w : EndIs codes1 s p (some e)) where
@@ -112,7 +120,7 @@ module _ (s : List ℕ) (p e : ℕ) (w : EndIs codes1 s p (some e)) where
   pub end_inside : e ≤ length s
   end_inside = ends_inside codes1 code_laws1 s p e w
 
-  pub copied_short : (z : List ℕ) → length z < e - p → Copied s p z z Apart
+  pub copied_short : (z : List ℕ) → length z < e - p → Copied s p z z None
   copied_short z h = record {
     fits = tt;
     wrote = λ t x i c q.
@@ -120,7 +128,7 @@ module _ (s : List ℕ) (p e : ℕ) (w : EndIs codes1 s p (some e)) where
         rw (← k) (omega (arith, w.1));
   }
 
-  pub copied_whole : (z o : List ℕ) → e - p ≤ length z → o ≡ over (take (e - p) (drop p s)) z → Copied s p z o (Met (e - p))
+  pub copied_whole : (z o : List ℕ) → e - p ≤ length z → o ≡ over (take (e - p) (drop p s)) z → Copied s p z o (Some (e - p))
   copied_whole z o h q = record {
     fits = h;
     wrote = λ t x i.
@@ -133,14 +141,18 @@ module _ (s : List ℕ) (p e : ℕ) (w : EndIs codes1 s p (some e)) where
   size = rw (ends_part codes1 code_laws1 s p e w) (omega (arith, w.1))
 
   pub copied_fits : (z o : List ℕ) (b : Bool) → b ≡ leb (length (take (e - p) (drop p s))) (length z) → b ≡ true
-      → o ≡ over_if (take (e - p) (drop p s)) z → Copied s p z o (Met (e - p))
+      → o ≡ over_if (take (e - p) (drop p s)) z → Copied s p z o (Some (e - p))
   copied_fits z o b f t q =
       let h : length (take (e - p) (drop p s)) ≤ length z = leb-true _ _ (sym f ∙ t) in
       copied_whole z o (rw size at h) (q ∙ over_fits (take (e - p) (drop p s)) z h)
 
   pub copied_not : (z o : List ℕ) (b : Bool) → b ≡ leb (length (take (e - p) (drop p s))) (length z) → b ≡ false
-      → o ≡ over_if (take (e - p) (drop p s)) z → Copied s p z o Apart
+      → o ≡ over_if (take (e - p) (drop p s)) z → Copied s p z o None
   copied_not z o b f t q =
       let h : length z < length (take (e - p) (drop p s)) = leb-false _ _ (sym f ∙ t) in
       let k : o ≡ z = rw (sym f ∙ t) at q in
       rw k (copied_short z (rw size at h))
+
+pub past_found : (s : List ℕ) (p : ℕ) (o : End) → EndIs codes1 s p (end_of o) → Past s p (unwrap_or o (length s))
+past_found s p (Some e) w = past_end s p e w
+past_found s p None w = past_none s p w

@@ -2,22 +2,20 @@
 use mathlib.Core.Path.{◌≡◌, refl}
 use mathlib.Core.Bool.{decide}
 use mathlib.Core.Option.{Option, none, some, map, Option-elim, bind, some_inj, none-ne-some}
-use Prim.Native.Nat.{ℕ, ◌<◌}
-use native.Mathlib.Omega.{arith}
-use lib.Dec.{eqb}
-use Rattle.base.specs.Pick.{pick}
 use Rattle.types.specs.Forest.{within, under, lower_of}
 use Rattle.types.specs.Types.{Message, Basic, Cipher, Pair, meet}
 use Rattle.types.specs.Version1.{T, types1, name, channel, shkey, shared, parent1, depth1}
 use Rattle.type_bytes.specs.Meets.{how_of}
+use Rattle.type_bytes.specs.declared.How.{How}
+use Rattle.type_bytes.specs.declared.How.TheVariants.{Second, First, Apart, Pairs, Ciphertexts}
 use Rattle.type_bytes.proofs.EndLaws.{tag}
 
-pub data HowIs : T → T → ℕ → Type 0 where
-  second : {t u : T} → meet types1 t u ≡ some u → HowIs t u 0
-  first : {t u : T} → meet types1 t u ≡ some t → HowIs t u 1
-  apart : {t u : T} → meet types1 t u ≡ none → HowIs t u 2
-  pairs : {a b c d : T} → HowIs (Pair a b) (Pair c d) 4
-  ciphers : {a c : T} → HowIs (Cipher shared a) (Cipher shared c) 5
+pub data HowIs : T → T → How → Type 0 where
+  second : {t u : T} → meet types1 t u ≡ some u → HowIs t u Second
+  first : {t u : T} → meet types1 t u ≡ some t → HowIs t u First
+  apart : {t u : T} → meet types1 t u ≡ none → HowIs t u Apart
+  pairs : {a b c d : T} → HowIs (Pair a b) (Pair c d) Pairs
+  ciphers : {a c : T} → HowIs (Cipher shared a) (Cipher shared c) Ciphertexts
 
 pub how_is : (t u : T) → HowIs t u (how_of (tag t) (tag u))
 unfolding how_of tag meet lower_of under within parent1 depth1 decide Option-elim
@@ -58,12 +56,44 @@ how_is (Cipher shared a) (Basic shkey) = apart refl
 how_is (Cipher shared a) (Pair c d) = apart refl
 how_is (Cipher shared a) (Cipher shared c) = ciphers
 
-pub flat : {t u : T} {h : ℕ} → HowIs t u h → h < 4 → meet types1 t u ≡ pick (eqb h 0) (some u) (pick (eqb h 1) (some t) none)
-flat (second e) l = e
-flat (first e) l = e
-flat (apart e) l = e
-flat pairs l = absurd (omega arith)
-flat ciphers l = absurd (omega arith)
+-- ── Where one of the two is the bound, or there is none ──
+
+pub in_second : {t u : T} {h : How} → HowIs t u h → h ≡ Second → meet types1 t u ≡ some u
+in_second (second q) e = q
+in_second (first q) e = cc
+in_second (apart q) e = cc
+in_second pairs e = cc
+in_second ciphers e = cc
+
+pub in_first : {t u : T} {h : How} → HowIs t u h → h ≡ First → meet types1 t u ≡ some t
+in_first (first q) e = q
+in_first (second q) e = cc
+in_first (apart q) e = cc
+in_first pairs e = cc
+in_first ciphers e = cc
+
+pub in_apart : {t u : T} {h : How} → HowIs t u h → h ≡ Apart → meet types1 t u ≡ none
+in_apart (apart q) e = q
+in_apart (second q) e = cc
+in_apart (first q) e = cc
+in_apart pairs e = cc
+in_apart ciphers e = cc
+
+-- ── Where it goes part by part ──
+
+pub in_pairs : {t u : T} {h : How} → HowIs t u h → h ≡ Pairs → (P : T → T → Type 0) → ((a b c d : T) → P (Pair a b) (Pair c d)) → P t u
+in_pairs (pairs {a = a} {b = b} {c = c} {d = d}) e P f = f a b c d
+in_pairs (second q) e P f = absurd cc
+in_pairs (first q) e P f = absurd cc
+in_pairs (apart q) e P f = absurd cc
+in_pairs ciphers e P f = absurd cc
+
+pub in_ciphers : {t u : T} {h : How} → HowIs t u h → h ≡ Ciphertexts → (P : T → T → Type 0) → ((a c : T) → P (Cipher shared a) (Cipher shared c)) → P t u
+in_ciphers (ciphers {a = a} {c = c}) e P f = f a c
+in_ciphers (second q) e P f = absurd cc
+in_ciphers (first q) e P f = absurd cc
+in_ciphers (apart q) e P f = absurd cc
+in_ciphers pairs e P f = absurd cc
 
 -- ── Pairs ──
 

@@ -1,4 +1,5 @@
 -- What the promises of `type_bytes` speak of.
+pub mod Lower
 pub mod Ends
 pub mod Meets
 pub mod Pending

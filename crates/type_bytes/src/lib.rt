@@ -8,124 +8,115 @@ ghost use Rattle.types.specs.Version1.{codes1};
 ghost use Rattle.type_bytes.specs.Ends.{end_of, Past};
 ghost use Rattle.type_bytes.specs.Meets.{Copied, Meets, how_of};
 
-// Where a type ends; or that there is none.
-#[derive(Drop)]
-pub enum End {
-    At(usize),
-    Bad,
-}
+use How::{Apart, Ciphertexts, First, Pairs, Second};
 
-// How many bytes were written; or that nothing fits.
-#[derive(Drop)]
-pub enum Lower {
-    Met(usize),
-    Apart,
-}
+// The codes of types: each type starts with one.
+pub const MESSAGE: u8 = 0;
 
-// Where the type that starts at p ends. One type is wanted at first; each code takes one off, and adds those that follow it.
-pub fn type_end(s: &[u8], p: usize) -> End
+pub const NAME: u8 = 1;
+
+pub const CHANNEL: u8 = 2;
+
+pub const SHKEY: u8 = 3;
+
+pub const PAIR: u8 = 4;
+
+pub const CIPHERTEXT: u8 = 5;
+
+// Where the type that starts at p ends, if there is one. One type is wanted at first; each code takes one off, and adds those that follow it.
+pub fn type_end(s: &[u8], p: usize) -> Option<usize>
     ensures { EndIs codes1 s.now p (end_of result) }
 {
     let mut wanted: usize = 1;
     let mut at = p;
     while 0 < wanted {
-        if s.len() <= at {
-            return End::Bad;
-        }
-        let b = s[at];
+        let b = *s.get(at)?;
         at += 1;
         match b {
-            0..=3 => wanted -= 1,
-            4 => wanted += 1,
-            5 => {}
-            6..=255 => return End::Bad,
+            MESSAGE..=SHKEY => wanted -= 1,
+            PAIR => wanted += 1,
+            CIPHERTEXT => {}
+            6..=255 => return None,
         }
     }
-    End::At(at)
+    Some(at)
 }
 
 // Where the type at p ends; the end of s where there is none.
 pub fn past(s: &[u8], p: usize) -> usize
     ensures { Past s.now p result }
 {
-    let End::At(e) = type_end(s, p) else {
-        return s.len();
-    };
-    e
+    type_end(s, p).unwrap_or(s.len())
 }
 
-// Copies the type at p of s to the start of out.
-pub fn copy_type(out: &mut [u8], s: &[u8], p: usize) -> Lower
+// Copies the type at p of s to the start of out. Answers how many bytes it has; none where there is no type, or it does not fit.
+pub fn copy_type(out: &mut [u8], s: &[u8], p: usize) -> Option<usize>
     ensures { Copied s.now p out.old out.new result }
 {
-    let End::At(e) = type_end(s, p) else {
-        return Lower::Apart;
-    };
-    let n = e - p;
+    let e = type_end(s, p)?;
     if buffers::copy(out, &s[p..e]) {
-        return Lower::Met(n);
+        Some(e - p)
+    } else {
+        None
     }
-    Lower::Apart
 }
 
-// How two codes meet, a row for each code of the first type: 0 the second type is the lower bound, 1 the first is, 2 there is none,
-// 4 and 5 it has that code, and goes part by part.
-const HOWS: [u8; 36] = [
-    0, 0, 0, 0, 0, 0, // Message
-    1, 0, 0, 0, 2, 2, // Name
-    1, 1, 0, 2, 2, 2, // Channel
-    1, 1, 2, 0, 2, 2, // ShKey
-    1, 2, 2, 2, 4, 2, // pair
-    1, 2, 2, 2, 2, 5, // ciphertext
+// How two types meet: the second or the first is the lower bound, there is none, or it goes part by part.
+#[derive(Clone, Copy)]
+enum How {
+    Second,
+    First,
+    Apart,
+    Pairs,
+    Ciphertexts,
+}
+
+// A row for each code of the first type.
+const HOWS: [[How; 6]; 6] = [
+    [Second, Second, Second, Second, Second, Second], // Message
+    [First, Second, Second, Second, Apart, Apart], // Name
+    [First, First, Second, Apart, Apart, Apart], // Channel
+    [First, First, Apart, Second, Apart, Apart], // ShKey
+    [First, Apart, Apart, Apart, Pairs, Apart], // pair
+    [First, Apart, Apart, Apart, Apart, Ciphertexts], // ciphertext
 ];
 
 // By the codes of two types; unknown codes do not meet.
-fn how(x: u8, y: u8) -> u8
+#[tactic(auto, unfolding(crate::specs::Meets::how_of))]
+fn how_codes_meet(x: u8, y: u8) -> How
     ensures { result ≡ how_of x y }
 {
-    if x < 6 {
-        if y < 6 {
-            return HOWS[base::wide(x) * 6 + base::wide(y)];
-        }
+    if x < 6 && y < 6 {
+        HOWS[base::wide(x)][base::wide(y)]
+    } else {
+        Apart
     }
-    2
 }
 
-// Writes the greatest lower bound of the types at p of a and at q of b to the start of out.
-pub fn meet(out: &mut [u8], a: &[u8], p: usize, b: &[u8], q: usize) -> Lower
+// Writes the greatest lower bound of the types at p of a and at q of b to the start of out. Answers how many bytes it has; none where
+// there is no such bound, or it does not fit.
+pub fn meet(out: &mut [u8], a: &[u8], p: usize, b: &[u8], q: usize) -> Option<usize>
     ensures { Meets a.now p b.now q out.old out.new result }
 {
-    if a.len() <= p {
-        return Lower::Apart;
+    let code = *a.get(p)?;
+    let other = *b.get(q)?;
+    if out.is_empty() {
+        return None;
     }
-    if b.len() <= q {
-        return Lower::Apart;
+    match how_codes_meet(code, other) {
+        Second => copy_type(out, b, q),
+        First => copy_type(out, a, p),
+        Apart => None,
+        Pairs => {
+            out[0] = code;
+            let m = meet(&mut out[1..], a, p + 1, b, q + 1)? + 1;
+            let i = past(a, p + 1);
+            let j = past(b, q + 1);
+            Some(m + meet(&mut out[m..], a, i, b, j)?)
+        }
+        Ciphertexts => {
+            out[0] = code;
+            Some(meet(&mut out[1..], a, p + 1, b, q + 1)? + 1)
+        }
     }
-    if out.len() == 0 {
-        return Lower::Apart;
-    }
-    let h = how(a[p], b[q]);
-    if h == 0 {
-        return copy_type(out, b, q);
-    }
-    if h == 1 {
-        return copy_type(out, a, p);
-    }
-    if h < 4 {
-        return Lower::Apart;
-    }
-    out[0] = h;
-    let Lower::Met(n) = meet(&mut out[1..], a, p + 1, b, q + 1) else {
-        return Lower::Apart;
-    };
-    let m = n + 1;
-    if h == 5 {
-        return Lower::Met(m);
-    }
-    let i = past(a, p + 1);
-    let j = past(b, q + 1);
-    let Lower::Met(k) = meet(&mut out[m..], a, i, b, j) else {
-        return Lower::Apart;
-    };
-    Lower::Met(m + k)
 }

@@ -4,22 +4,17 @@
 
 ghost use Rattle.type_lists.specs.Lists.{TypeIs, SizeIs, TypePut, TypesPut};
 
-use type_bytes::End;
-
 // The bytes of the type in slot x, as the part of the slots that holds them; none where there is no slot x.
 pub fn slot_type<'a>(work: &'a [u8], x: u8) -> &'a [u8]
     ensures { TypeIs work.now x result.now }
 {
-    let at = slots::slot_at(x);
-    let e = at + 129;
-    if work.len() < e {
-        return &work[0..0];
-    }
-    let End::At(n) = type_bytes::type_end(&work[at..e], 0) else {
-        return &work[0..0];
+    let Some(slot) = slots::slot(work, x) else {
+        return &[];
     };
-    let end = at + n;
-    &work[at..end]
+    let Some(n) = type_bytes::type_end(slot, 0) else {
+        return &[];
+    };
+    &slot[..n]
 }
 
 // How many bytes the types of the first n slots have, with their length bytes.
@@ -27,10 +22,8 @@ pub fn types_size(work: &[u8], n: u8) -> usize
     ensures { SizeIs work.now n result }
 {
     let mut size = 0;
-    let mut x = 0;
-    while x < n {
+    for x in 0..n {
         size += slot_type(work, x).len() + 1;
-        x += 1;
     }
     size
 }
@@ -54,9 +47,7 @@ pub fn put_types(out: &mut [u8], work: &[u8], n: u8)
     ensures { TypesPut work.now n out.old out.new }
 {
     let mut at = 0;
-    let mut x = 0;
-    while x < n {
+    for x in 0..n {
         at += put_type(&mut out[at..], work, x);
-        x += 1;
     }
 }

@@ -1,17 +1,18 @@
 -- Types compared one after the other. Assumes nothing.
 use mathlib.Core.Path.{◌≡◌, refl, sym, ap, ◌∙◌}
-use mathlib.Core.Bool.{Bool, true, false}
-use mathlib.Core.Option.{none, some, some_inj, none-ne-some}
+use mathlib.Core.Bool.{Bool, true, false, not}
+use mathlib.Core.Option.{some, some_inj, none-ne-some}
 use mathlib.Core.List.{List, [], ◌∷◌}
-use Prim.Native.Nat.{ℕ, zero, suc, ◌+◌, ◌-◌, ◌≤◌, ◌<◌}
+use Prim.Native.Nat.{ℕ, zero, suc, ◌+◌, ◌≤◌, ◌<◌, min}
 use native.Mathlib.Omega.{arith}
 use native.Mathlib.Numerals.{add-one}
-use lib.ListN.{length, take, drop, get_or, get_elem?}
+use lib.ListN.{length, take, get_or, get_elem?}
 use lib.Seq.{take_all, take-suc}
+use borrow.Author.Tests.{not-false}
+use Rattle.std.specs.Str.{bytes_eq}
+use Rattle.std.proofs.lemmas.Slice.Eq.{bytes_eq-Decides}
 use Rattle.base.specs.Bytes.{byte}
-use Rattle.answers.specs.Ladder.{refusal, least}
-use Rattle.answers.specs.declared.Check.{Check}
-use Rattle.answers.specs.declared.Check.TheVariants.{Pass, Refuse}
+use Rattle.answers.specs.Ladder.{refusal, least, Check}
 use Rattle.list.specs.Layout.{symbols, type_at}
 use Rattle.list.specs.Faults.{list_rungs}
 use Rattle.list.proofs.Framed.{list_passes, type_inside}
@@ -30,6 +31,7 @@ use Rattle.decoded_list.specs.Bytes.{types_to}
 use Rattle.slots.specs.Slots.{Holds}
 use Rattle.type_lists.specs.Lists.{TypeIs}
 use Rattle.type_match.specs.Alike.{alike, unlike, BodyIs, Matched}
+use Rattle.std.proofs.Common.{Ok, Err}
 
 -- ── Elements of lists ──
 
@@ -38,46 +40,35 @@ there [] i h = absurd (omega arith)
 there (a ∷ l) zero h = refl
 there (a ∷ l) (suc i) h = there l i (omega arith)
 
-past : (l : List T) (i : ℕ) → length l ≤ i → get_elem? l i ≡ none
-past [] i h = refl
-past (a ∷ l) zero h = absurd (omega arith)
-past (a ∷ l) (suc i) h = past l i (omega arith)
+-- lists of different lengths differ where the shorter one ends
+ends_apart : (k l : List T) (i : ℕ) → i ≡ min (length k) (length l) → ¬ (length k ≡ length l) → ¬ (get_elem? k i ≡ get_elem? l i)
+ends_apart [] [] i e n q = n refl
+ends_apart [] (b ∷ l) zero e n q = none-ne-some _ q
+ends_apart [] (b ∷ l) (suc i) e n q = absurd (omega arith)
+ends_apart (a ∷ k) [] zero e n q = none-ne-some _ (sym q)
+ends_apart (a ∷ k) [] (suc i) e n q = absurd (omega arith)
+ends_apart (a ∷ k) (b ∷ l) zero e n q = absurd (omega arith)
+ends_apart (a ∷ k) (b ∷ l) (suc i) e n q = ends_apart k l i (omega arith) (λ m. n (omega arith)) q
 
 -- ── One comparison ──
 
-pub body_there : (l : List ℕ) (p start end : ℕ) → start ≡ p + 1 → end ≡ start + byte l p → BodyIs l p (take (end - start) (drop start l))
-body_there l p start end s e = record { is = λ h. let q : end - start ≡ byte l p = omega arith in rw (q, s) refl }
-
-pub body_past : (l : List ℕ) (p start end : ℕ) → start ≡ p + 1 → end ≡ start + byte l p → length l < end → BodyIs l p []
-body_past l p start end s e h = record { is = λ g. absurd (omega arith) }
-
 -- the first i types are those of the slots
 pub record SoFar (l w : List ℕ) (n i : ℕ) : Type 0 where
-  pub same : (Γ : Env signature1) (free : ℕ) → Holds w Γ → n ≤ 96 → least (list_rungs l free) ≡ Pass → (d : Decoded l) → take i d.types ≡ take i (types_to Γ n)
+  pub same : (Γ : Env signature1) (free : ℕ) → Holds w Γ → n ≤ 96 → least (list_rungs l free) ≡ Ok tt → (d : Decoded l) → take i d.types ≡ take i (types_to Γ n)
 
 pub none_yet : (l w : List ℕ) (n : ℕ) → SoFar l w n 0
 none_yet l w n = record { same = λ Γ free h m e d. refl }
 
 module _ (l w : List ℕ) (n i : ℕ) (p : SoFar l w n i) where
-  -- the list has no type i
-  pub too_few : i < n → symbols l ≤ i → (r : Check) → r ≡ Refuse (refusal 11 1 i) → Matched l w n r
-  too_few h m r q = rw q (record {
-    matched = λ Γ free k f e d. unlike (differ_at (p.same Γ free k f e d) (λ z.
-        none-ne-some _ (sym (past d.types i (omega (arith, decoded_symbols l d))) ∙ z ∙ there (types_to Γ n) i (omega (arith, listed_length Γ 0 n)))));
+  -- there are more types, here or there
+  pub number_differs : i ≡ min (symbols l) n → ¬ (symbols l ≡ n) → (r : Check) → r ≡ Err (refusal 11 1 i) → Matched l w n r
+  number_differs m g r q = rw q (record {
+    matched = λ Γ free k f e d. unlike (differ_at (p.same Γ free k f e d) (ends_apart d.types (types_to Γ n) i (rw (decoded_symbols l d, listed_length Γ 0 n) m) (rw (decoded_symbols l d, listed_length Γ 0 n) g)));
   })
 
-  -- the list has types beyond
-  pub too_many : n ≤ i → i ≤ n → n < symbols l → (r : Check) → r ≡ Refuse (refusal 11 1 n) → Matched l w n r
-  too_many h g m r q =
-      let s : i ≡ n = omega arith in
-      rw q (record {
-        matched = λ Γ free k f e d. unlike (differ_at (rw s at (p.same Γ free k f e d)) (λ z.
-            none-ne-some _ (sym (past (types_to Γ n) n (omega (arith, listed_length Γ 0 n))) ∙ sym z ∙ there d.types n (omega (arith, decoded_symbols l d)))));
-      })
-
   -- all are alike
-  pub as_many : n ≤ i → i ≤ n → symbols l ≡ n → Matched l w n Pass
-  as_many h g m = record {
+  pub as_many : i ≡ min (symbols l) n → symbols l ≡ n → Matched l w n (Ok tt)
+  as_many g m = record {
     matched = λ Γ free k f e d.
         let s : take i d.types ≡ take i (types_to Γ n) = p.same Γ free k f e d in
         alike (sym (take_all i d.types (omega (arith, decoded_symbols l d))) ∙ s ∙ take_all i (types_to Γ n) (omega (arith, listed_length Γ 0 n)));
@@ -85,7 +76,7 @@ module _ (l w : List ℕ) (n i : ℕ) (p : SoFar l w n i) where
 
   module _ (at : ℕ) (a : at ≡ type_at l i) (h : i < n) (m : i < symbols l) (u v : List ℕ) (b : BodyIs l at u) (t : TypeIs w i v) where
     -- what is compared
-    of_list : (free : ℕ) → least (list_rungs l free) ≡ Pass → (d : Decoded l) → u ≡ bytes (get_or d.types i Message)
+    of_list : (free : ℕ) → least (list_rungs l free) ≡ Ok tt → (d : Decoded l) → u ≡ bytes (get_or d.types i Message)
     of_list free e d =
         let f = ((list_passes l free).0 e).framed in
         b.is (rw a (type_inside l i f.length_exact m)) ∙ rw a (decoded_body l d i m)
@@ -102,7 +93,7 @@ module _ (l w : List ℕ) (n i : ℕ) (p : SoFar l w n i) where
     }
 
     -- they differ
-    pub one_differs : ¬ (u ≡ v) → (r : Check) → r ≡ Refuse (refusal 11 1 i) → Matched l w n r
+    pub one_differs : ¬ (u ≡ v) → (r : Check) → r ≡ Err (refusal 11 1 i) → Matched l w n r
     one_differs q r j = rw j (record {
       matched = λ Γ free k f e d. unlike (differ_at (p.same Γ free k f e d) (λ z.
           let y : some (get_or d.types i Message) ≡ some (get_or (types_to Γ n) i Message) = sym (there d.types i (omega (arith, decoded_symbols l d))) ∙ z ∙ there (types_to Γ n) i (omega (arith, listed_length Γ 0 n)) in
@@ -110,11 +101,11 @@ module _ (l w : List ℕ) (n i : ℕ) (p : SoFar l w n i) where
     })
 
 -- what a comparison tells
-pub is_same : (u v : List ℕ) (r : Bool) → r ≡ true → (r ≡ true → u ≡ v) → u ≡ v
-is_same u v r e f = f e
+pub is_same : (u v : List ℕ) (r : Bool) → r ≡ not (bytes_eq u v) → r ≡ false → u ≡ v
+is_same u v r e f = (bytes_eq-Decides u v).0 (not-false (bytes_eq u v) (sym e ∙ f))
 
-pub not_same : (u v : List ℕ) (r : Bool) → r ≡ false → (u ≡ v → r ≡ true) → ¬ (u ≡ v)
-not_same u v r e f q = let g = f q in let y : ◌≡◌ {A = ℕ} 0 1 = cc in absurd (omega arith)
+pub not_same : (u v : List ℕ) (r : Bool) → r ≡ not (bytes_eq u v) → r ≡ true → ¬ (u ≡ v)
+not_same u v r e f q = let g = (bytes_eq-Decides u v).1 q in let y : ◌≡◌ {A = ℕ} 0 1 = cc in absurd (omega arith)
 
 -- where the next type stands
 pub next_at : (l : List ℕ) (at i b r : ℕ) → at ≡ type_at l i → b ≡ byte l at → r ≡ at + (b + 1) → r ≡ type_at l (i + 1)

@@ -1,9 +1,7 @@
 -- Number 11, in the words of the meaning. Assumes nothing: these are definitions.
-use Rattle.std.specs.Prelude.{◌≡◌, List, ℕ, ◌≤◌, length}
+use Rattle.std.specs.Prelude.{◌≡◌, List, ℕ, ◌≤◌, length, Ok, Err}
 use Rattle.std.proofs.Math.Option.{some}
-use Rattle.answers.specs.Ladder.{refusal, least}
-use Rattle.answers.specs.declared.Check.{Check}
-use Rattle.answers.specs.declared.Check.TheVariants.{Pass, Refuse}
+use Rattle.answers.specs.Ladder.{refusal, least, Check}
 use Rattle.list.specs.Layout.{body_at, past_type}
 use Rattle.list.specs.Faults.{list_rungs}
 use Rattle.types.specs.Version1.{T}
@@ -16,8 +14,8 @@ use Rattle.slots.specs.Slots.{Holds}
 
 -- the list's types are the widest ones; or 11 at the first place at which they differ, or at which the shorter one ends
 pub data Alike (As Bs : List T) : Check → Type 0 where
-  alike : As ≡ Bs → Alike As Bs Pass
-  unlike : {i : ℕ} → Differ As Bs (some i) → Alike As Bs (Refuse (refusal 11 1 i))
+  alike : As ≡ Bs → Alike As Bs (Ok tt)
+  unlike : {i : ℕ} → Differ As Bs (some i) → Alike As Bs (Err (refusal 11 1 i))
 
 -- r is the body of the type at p, if it lies inside the list
 pub record BodyIs (l : List ℕ) (p : ℕ) (r : List ℕ) : Type 0 where
@@ -25,4 +23,4 @@ pub record BodyIs (l : List ℕ) (p : ℕ) (r : List ℕ) : Type 0 where
 
 -- the types of a list without faults 1 to 5 were compared with those of the first n slots
 pub record Matched (l w : List ℕ) (n : ℕ) (r : Check) : Type 0 where
-  pub matched : (Γ : Env signature1) (free : ℕ) → Holds w Γ → n ≤ 96 → least (list_rungs l free) ≡ Pass → (d : Decoded l) → Alike d.types (types_to Γ n) r
+  pub matched : (Γ : Env signature1) (free : ℕ) → Holds w Γ → n ≤ 96 → least (list_rungs l free) ≡ Ok tt → (d : Decoded l) → Alike d.types (types_to Γ n) r

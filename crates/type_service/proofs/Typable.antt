@@ -8,7 +8,6 @@ use native.Mathlib.Omega.{arith}
 use lib.ListN.{length}
 use Rattle.answers.specs.Ladder.{least, refusal}
 use Rattle.answers.specs.declared.Refusal.{Refusal}
-use Rattle.answers.specs.declared.Check.TheVariants.{Pass, Refuse}
 use Rattle.table.specs.Faults.{table_rungs}
 use Rattle.calculus.specs.Terms.{bound}
 use Rattle.calculus.specs.Tables.{process}
@@ -25,8 +24,9 @@ use Rattle.decoded.proofs.Checked.{table_checked}
 use Rattle.decoded.proofs.Sorts.{table_binds_variables}
 use Rattle.type_service.specs.Services.{Typable, IsWidest, TableRefused, faulty, no_typing}
 use Rattle.type_service.proofs.ServiceLaws.{not_both}
+use Rattle.std.proofs.Common.{Ok, Err}
 
-module _ (s : List ℕ) (sound : least (table_rungs s) ≡ Pass) where
+module _ (s : List ℕ) (sound : least (table_rungs s) ≡ Ok tt) where
   checked : Checked signature1 (table_of s)
   checked = table_checked s sound
 
@@ -40,7 +40,7 @@ module _ (s : List ℕ) (sound : least (table_rungs s) ≡ Pass) where
       go : (x : Refusal) → x ≡ refusal 10 0 k → TableRefused s x → AnswerIs signature1 (table_of s) (untyped k)
       go x q (faulty e) = let y : ◌≡◌ {A = ℕ} 0 1 = cc in absurd (omega arith)
       go x q (no_typing {k = j} p u n) =
-          let g : Refuse (refusal 10 0 j) ≡ Refuse x = n in let f : refusal 10 0 j ≡ x = cc in let e : j ≡ k = ap (λ (r : Refusal). r.place) (f ∙ q) in rw e at u
+          let g : Err (refusal 10 0 j) ≡ Err x = n in let f : refusal 10 0 j ≡ x = cc in let e : j ≡ k = ap (λ (r : Refusal). r.place) (f ∙ q) in rw e at u
 
   -- its place is the highest step from which the rest of the steps has no typing
   pub untypable_from : (k : ℕ) → TableRefused s (refusal 10 0 k) ↔ ((k < length (table_of s).steps) × (Typable s k → ⊥) × ((j : ℕ) → k < j → Typable s j))

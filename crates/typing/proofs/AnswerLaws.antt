@@ -8,7 +8,6 @@ use lib.ListN.{length}
 use borrow.Author.Tests.{leb-true}
 use Rattle.base.proofs.BothLaws.{both_right}
 use Rattle.answers.specs.Ladder.{least}
-use Rattle.answers.specs.declared.Check.TheVariants.{Pass}
 use Rattle.table_layout.specs.Layout.{symbols, terms, steps, counts_ok}
 use Rattle.table.specs.Faults.{table_rungs}
 use Rattle.calculus.specs.Typing.{AnswerIs}
@@ -28,10 +27,10 @@ use Rattle.slots.proofs.TermLaws.{entries_are, in_range}
 use Rattle.slots.proofs.SlotLaws.{caps}
 use Rattle.typing.specs.Stages.{from, Found, Inferred}
 use Rattle.typing.specs.Answers.{TypingIs, TableInferred}
-use Rattle.typing.specs.declared.Typing.{Typing}
-use Rattle.typing.specs.declared.Typing.TheVariants.{Widest, NoTyping}
+use Rattle.std.proofs.Common.{Ok, Err}
+use Rattle.typing.specs.Typing.{Typing}
 
-module _ (s : List ℕ) (p : least (table_rungs s) ≡ Pass) where
+module _ (s : List ℕ) (p : least (table_rungs s) ≡ Ok tt) where
   few_steps : Entered s → 2 * length (table_of s).steps + 1 ≤ 129
   unfolding counts_ok
   few_steps n =
@@ -52,8 +51,8 @@ module _ (s : List ℕ) (p : least (table_rungs s) ≡ Pass) where
   right = rw from_is (right1 (table_of s) (table_checked s p))
 
   answered : (o : List ℕ) (r : Typing) → Found s (widest_of s) o r → TypingIs s o r
-  answered o Widest (Θ, e, h) = (Θ, h, rw e at right)
-  answered o (NoTyping k) e = rw e at right
+  answered o (Ok u) (Θ, e, h) = (Θ, h, rw e at right)
+  answered o (Err n) e = rw e at right
 
 pub table_inferred : (s w z o : List ℕ) (r : Typing) → StartedAll s 96 w z → Inferred z s o r → TableInferred s w o r
 table_inferred s w z o r a i = record {

@@ -1,6 +1,5 @@
 -- A step, and all steps. Assumes nothing.
 use mathlib.Core.Path.{◌≡◌, refl, ap, ◌∙◌}
-use mathlib.Core.Bool.{Bool, true, false}
 use mathlib.Core.List.{List}
 use mathlib.Core.Option.{bind}
 use Prim.Native.Nat.{ℕ, zero, suc, ◌+◌, ◌-◌, ◌≤◌, ◌<◌}
@@ -12,20 +11,21 @@ use Rattle.calculus.specs.Inference.{standing, at_step, found, before, infer_by}
 use Rattle.calculus.specs.Version1.{signature1}
 use Rattle.entries.specs.Tiling.{listed}
 use Rattle.decoded.specs.Table.{step_at}
+use Rattle.std.proofs.Common.{Some, None, Ok, Err}
+use Rattle.slots.specs.Fit.{Fit}
 use Rattle.slots.specs.Terms.{entry}
 use Rattle.slots.specs.Slots.{meet_in}
 use Rattle.typing.specs.Marking.{StepMarked}
 use Rattle.typing.specs.Stages.{KeysPut, WantsPut, StepPut, from, TypedFrom, Inferred}
-use Rattle.typing.specs.declared.Typing.TheVariants.{Widest, NoTyping}
 
 -- ── One step ──
 
 module _ (w s : List ℕ) (k : ℕ) where
-  pub step_stop : (o : List ℕ) → WantsPut w s k o false → StepPut w s k o false
+  pub step_stop : (o : List ℕ) → WantsPut w s k o None → StepPut w s k o None
   unfolding at_step bind
   step_stop o v = record { left = λ Γ r h d. rw (v.left Γ r h d) }
 
-  pub step_on : (o₁ o l : List ℕ) (t : Bool) → WantsPut w s k o₁ true → StepMarked s k l → KeysPut o₁ s l o t → StepPut w s k o t
+  pub step_on : (o₁ o l : List ℕ) (t : Fit) → WantsPut w s k o₁ (Some tt) → StepMarked s k l → KeysPut o₁ s l o t → StepPut w s k o t
   unfolding at_step bind
   step_on o₁ o l t v m u = record {
     left = λ Γ r h d.
@@ -54,7 +54,7 @@ unfolding infer_by listed
 typed_start w s c e = record { found = λ Γ r h. let q : steps s - c ≡ 0 = omega arith in rw q (Γ, refl, h) }
 
 module _ (w s o₁ o : List ℕ) (k j : ℕ) (hj : k ≡ suc j) (hk : k ≤ steps s) (v : TypedFrom w s k o₁) where
-  pub typed_more : StepPut o₁ s j o true → TypedFrom w s j o
+  pub typed_more : StepPut o₁ s j o (Some tt) → TypedFrom w s j o
   unfolding before found
   typed_more u = record {
     found = λ Γ r h.
@@ -63,7 +63,7 @@ module _ (w s o₁ o : List ℕ) (k j : ℕ) (hj : k ≡ suc j) (hk : k ≤ step
         (Ξ, from_more s Γ j (omega arith) ∙ rw (rw hj at e, f), d);
   }
 
-  pub typed_stop : StepPut o₁ s j o false → Inferred w s o (NoTyping j)
+  pub typed_stop : StepPut o₁ s j o None → Inferred w s o (Err (record { place = j }))
   unfolding before found
   typed_stop u = record {
     answer = λ Γ r h.
@@ -73,5 +73,5 @@ module _ (w s o₁ o : List ℕ) (k j : ℕ) (hj : k ≡ suc j) (hk : k ≤ step
         rw q at (from_untyped s Γ j 0 (omega arith) (from_more s Γ j (omega arith) ∙ rw (rw hj at e, f)));
   }
 
-pub typed_end : (w s o : List ℕ) (k : ℕ) → k ≤ 0 → TypedFrom w s k o → Inferred w s o Widest
+pub typed_end : (w s o : List ℕ) (k : ℕ) → k ≤ 0 → TypedFrom w s k o → Inferred w s o (Ok tt)
 typed_end w s o k h v = record { answer = λ Γ r d. let q : k ≡ 0 = omega arith in (rw q at v).found Γ r d }

@@ -8,7 +8,6 @@ use lib.Seq.{length-take-le}
 use Rattle.base.specs.Bytes.{byte}
 use Rattle.codes.specs.Rows.{fields, field_bytes, width}
 use Rattle.answers.specs.Ladder.{least}
-use Rattle.answers.specs.declared.Check.TheVariants.{Pass}
 use Rattle.buffers.specs.Over.{over_if}
 use Rattle.buffers.proofs.OverLaws.{over_fits}
 use Rattle.entries.specs.Fields.{place_of, code, field}
@@ -24,6 +23,7 @@ use Rattle.decoded.specs.Values.{value_of, value_at, values_of}
 use Rattle.decoded.proofs.ValueLaws.{values_length}
 use Rattle.value_table.specs.Values.{five_bytes, value_bytes}
 use Rattle.value_table.specs.Kept.{Copied}
+use Rattle.std.proofs.Common.{Ok}
 
 -- a value of a known tag, written
 known_written : (t a b : ℕ) → t < 3 → value_bytes (value_of t a b) ≡ five_bytes t a b
@@ -45,7 +45,7 @@ value_stretch s h i l = known_written (code s 3 10 i) _ _ l ∙ entry_written s 
     at e = unfold place_of width byte in e
 
 -- the bytes of a checked trace's values
-values_bytes : (tr : List ℕ) → Bytes tr → least (trace_rungs tr) ≡ Pass → joined value_bytes (values_of tr) ≡ take (5 * values tr) (drop 10 tr)
+values_bytes : (tr : List ℕ) → Bytes tr → least (trace_rungs tr) ≡ Ok tt → joined value_bytes (values_of tr) ≡ take (5 * values tr) (drop 10 tr)
 values_bytes tr b e =
     let c = (trace_passes tr).0 e in
     let z : values tr * 5 ≡ 5 * values tr = omega arith in

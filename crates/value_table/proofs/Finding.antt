@@ -3,7 +3,7 @@ use mathlib.Core.Path.{◌≡◌, refl, sym, ap, ◌∙◌}
 use mathlib.Core.Bool.{Bool, true, false, cond, not, decide}
 use mathlib.Core.Option.{Option, none, some}
 use mathlib.Core.List.{List, [], ◌∷◌, ◌++◌}
-use Prim.Native.Nat.{ℕ, zero, suc, ◌+◌, ◌-◌, ◌<◌, ◌≤◌}
+use Prim.Native.Nat.{ℕ, zero, suc, ◌+◌, ◌-◌, ◌<◌}
 use native.Mathlib.Omega.{arith}
 use lib.Dec.{eqb}
 use lib.ListN.{length}
@@ -11,7 +11,7 @@ use borrow.Author.Tests.{eqb-true, eq-eqb}
 use Rattle.base.specs.Pick.{pick, both}
 use Rattle.base.specs.Search.{Search, clean, wrong, walk, first}
 use Rattle.base.proofs.BothLaws.{both_parts}
-use Rattle.base.proofs.Searched.{first_wrong_lem, first_end, Found, first_bad, found}
+use Rattle.std.proofs.Common.{Some, None}
 use Rattle.calculus.specs.Signature.{Two, pairing, seal}
 use Rattle.calculus.specs.Terms.{Atom, build2}
 use Rattle.calculus.specs.Tables.{Entry, kind_entry, entry_at}
@@ -22,23 +22,10 @@ use Rattle.decoded.specs.Table.{two_code}
 use Rattle.decoded.specs.Values.{value_of}
 use Rattle.decoded.proofs.ValueLaws.{no_atom}
 use Rattle.value_table.specs.Values.{tag_at, part_at, value_bytes}
-use Rattle.value_table.specs.Kept.{Kept, Appended, same_at, place_or, place_in, Makes}
+use Rattle.value_table.specs.Kept.{Kept, Appended, same_at, found_place, place_in, Makes}
 use Rattle.value_table.specs.declared.Made.{Made}
 use Rattle.value_table.proofs.Reading.{entry_read, tag_small, tag_of, first_of, second_of}
 use Rattle.value_table.proofs.Keeping.{kept_table, kept_more}
-
--- ── The search ──
-
--- a search that has come to i, and stops there or at the end
-pub place_here : (s : List ℕ) (n t a b i : ℕ) → first (λ j. not (same_at s n t a b j)) 0 n ≡ first (λ j. not (same_at s n t a b j)) i n → i < n → same_at s n t a b i ≡ true
-    → i ≡ place_in s n t a b
-unfolding place_in
-place_here s n t a b i q h e = rw (q, first_wrong_lem (λ j. not (same_at s n t a b j)) i n h (ap not e))
-
-pub place_none : (s : List ℕ) (n t a b i : ℕ) → first (λ j. not (same_at s n t a b j)) 0 n ≡ first (λ j. not (same_at s n t a b j)) i n → n ≤ i
-    → n ≡ place_in s n t a b
-unfolding place_in
-place_none s n t a b i q h = rw (q, first_end (λ j. not (same_at s n t a b j)) i n h)
 
 -- ── Equal by tag and numbers ──
 
@@ -147,42 +134,39 @@ module _ {z v : List ℕ} {es : List (Entry signature1 Atom)} {n : ℕ} (k : Two
       at j q = let y : 0 + j ≡ j = omega arith in rw y q
 
   -- by what the search found
-  made_by : (s : Search) → Found (λ j. not (same_at v n t a b j)) 0 n s → search ≡ s → made signature1 es (build2 k a b) ≡ placed signature1 es (kind_entry (build2 k a b)) (option_of s)
+  made_by : (s : Search) → search ≡ s → made signature1 es (build2 k a b) ≡ placed signature1 es (kind_entry (build2 k a b)) (option_of s)
   unfolding made
-  made_by s f q = rw (place_found, q)
+  made_by s q = rw (place_found, q)
 
   -- it is there
-  pub made_there : (i : ℕ) → i ≡ place_in v n t a b → i < n → made signature1 es (build2 k a b) ≡ (i, es)
+  pub made_there : (i : ℕ) → Some i ≡ place_in v n t a b → made signature1 es (build2 k a b) ≡ (i, es)
   unfolding place_in placed
-  made_there i e h = go search (found (λ j. not (same_at v n t a b j)) 0 n (omega arith)) refl e
+  made_there i e = go search refl e
     where
-      go : (s : Search) → Found (λ j. not (same_at v n t a b j)) 0 n s → search ≡ s → i ≡ place_or n s → made signature1 es (build2 k a b) ≡ (i, es)
-      go clean f q e = absurd (omega arith)
-      go (wrong j) f q e = rw (made_by (wrong j) f q, e)
+      go : (s : Search) → search ≡ s → Some i ≡ found_place s → made signature1 es (build2 k a b) ≡ (i, es)
+      go clean q e = cc
+      go (wrong j) q e = let d : i ≡ j = cc in rw (made_by (wrong j) q, d)
 
   -- it is not
-  pub made_new : (i : ℕ) → i ≡ place_in v n t a b → n ≤ i → (i ≡ length es) × (made signature1 es (build2 k a b) ≡ (i, es ++ (kind_entry (build2 k a b) ∷ [])))
+  pub made_new : None ≡ place_in v n t a b → made signature1 es (build2 k a b) ≡ (n, es ++ (kind_entry (build2 k a b) ∷ []))
   unfolding place_in placed
-  made_new i e h = go search (found (λ j. not (same_at v n t a b j)) 0 n (omega arith)) refl e
+  made_new e = go search refl e
     where
-      go : (s : Search) → Found (λ j. not (same_at v n t a b j)) 0 n s → search ≡ s → i ≡ place_or n s
-          → (i ≡ length es) × (made signature1 es (build2 k a b) ≡ (i, es ++ (kind_entry (build2 k a b) ∷ [])))
-      go clean f q e = let d : i ≡ length es = e ∙ p.count in (d, rw (made_by clean f q, d))
-      go (wrong j) (first_bad x y u w) q e = absurd (omega arith)
+      go : (s : Search) → search ≡ s → None ≡ found_place s → made signature1 es (build2 k a b) ≡ (n, es ++ (kind_entry (build2 k a b) ∷ []))
+      go clean q e = rw (made_by clean q, p.count)
+      go (wrong j) q e = cc
 
 -- ── What `make` leaves ──
 
-module _ (v : List ℕ) (n t a b i : ℕ) (e : i ≡ place_in v n t a b) where
-  pub makes_there : i < n → Makes v n t a b v (record { index = i; count = n })
-  makes_there h = record { makes = λ k z es c p r l. rw (made_there k a b t c p i e h) (refl, p) }
+module _ (v : List ℕ) (n t a b : ℕ) where
+  pub makes_there : (i : ℕ) → Some i ≡ place_in v n t a b → Makes v n t a b v (record { index = i; count = n })
+  makes_there i e = record { makes = λ k z es c p r l. rw (made_there k a b t c p i e) (refl, p) }
 
   pub makes_full : (o : List ℕ) (r : Made) → n ≡ 65535 → Makes v n t a b o r
   makes_full o r q = record { makes = λ k z es c p x l. absurd (omega arith) }
 
-  pub makes_new : (o : List ℕ) → n ≤ i → Appended v n t a b o → Makes v n t a b o (record { index = i; count = n + 1 })
+  pub makes_new : (o : List ℕ) → None ≡ place_in v n t a b → Appended v n t a b o → Makes v n t a b o (record { index = n; count = n + 1 })
   unfolding value_bytes
-  makes_new o h d = record {
-    makes = λ k z es c p r l.
-        let q = made_new k a b t c p i e h in
-        rw q.1 (refl, kept_more (kind_entry (build2 k a b)) p r (rw c) d);
+  makes_new o e d = record {
+    makes = λ k z es c p r l. rw (made_new k a b t c p e) (refl, kept_more (kind_entry (build2 k a b)) p r (rw c) d);
   }

@@ -1,9 +1,8 @@
 -- A value table kept in a lent buffer, and what each function leaves of it. Assumes nothing: these are definitions.
-use Rattle.std.specs.Prelude.{◌≡◌, Bool, not, List, ◌++◌, ℕ, ◌+◌, ◌*◌, ◌≤◌, ◌<◌, eqb, length}
+use Rattle.std.specs.Prelude.{◌≡◌, Bool, not, Option, Some, None, List, ◌++◌, ℕ, ◌+◌, ◌*◌, ◌≤◌, ◌<◌, eqb, length, Ok}
 use Rattle.base.specs.Pick.{both}
 use Rattle.base.specs.Search.{Search, clean, wrong, first}
 use Rattle.answers.specs.Ladder.{least}
-use Rattle.answers.specs.declared.Check.TheVariants.{Pass}
 use Rattle.buffers.specs.Over.{over}
 use Rattle.entries.specs.Tiling.{joined}
 use Rattle.trace.specs.Layout.{values}
@@ -29,20 +28,20 @@ pub record Appended (v : List ℕ) (n tag a b : ℕ) (o : List ℕ) : Type 0 whe
 
 -- the values of a checked trace were copied, if there was room for them
 pub record Copied (tr z o : List ℕ) : Type 0 where
-  pub copied : least (trace_rungs tr) ≡ Pass → 5 * values tr ≤ length z → Kept z (values_of tr) o (values tr)
+  pub copied : least (trace_rungs tr) ≡ Ok tt → 5 * values tr ≤ length z → Kept z (values_of tr) o (values tr)
 
 -- value i of the first n has this tag and these numbers
 unfoldable pub same_at : List ℕ → ℕ → ℕ → ℕ → ℕ → ℕ → Bool
 same_at s n tag a b i = both (eqb (tag_at s n i) tag) (both (eqb (part_at s n i 0) a) (eqb (part_at s n i 1) b))
 
--- the place that a search found, or n
-abbrev pub place_or : ℕ → Search → ℕ
-place_or n clean = n
-place_or n (wrong i) = i
+-- the place that a search found
+abbrev pub found_place : Search → Option ℕ
+found_place clean = None
+found_place (wrong i) = Some i
 
--- the first of n values that is so, or n
-unfoldable pub place_in : List ℕ → ℕ → ℕ → ℕ → ℕ → ℕ
-place_in s n tag a b = place_or n (first (λ i. not (same_at s n tag a b i)) 0 n)
+-- the first of n values that is so
+unfoldable pub place_in : List ℕ → ℕ → ℕ → ℕ → ℕ → Option ℕ
+place_in s n tag a b = found_place (first (λ i. not (same_at s n tag a b i)) 0 n)
 
 -- whatever values are kept, a made one is found among them or appended, if there is room for one more
 pub record Makes (v : List ℕ) (n tag a b : ℕ) (o : List ℕ) (r : Made) : Type 0 where

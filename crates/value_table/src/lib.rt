@@ -7,8 +7,10 @@ ghost use Rattle.buffers.specs.Over.{over_if};
 ghost use Rattle.value_table.specs.Values.{known, tag_at, part_at, five_bytes};
 ghost use Rattle.value_table.specs.Kept.{Appended, Copied, same_at, place_in, Makes};
 
+use codes::Kind;
+
 // A made value: its index, and how many values there are now.
-#[derive(Drop)]
+#[derive(Clone, Copy, PartialEq, Eq)]
 pub struct Made {
     pub index: u16,
     pub count: u16,
@@ -18,10 +20,7 @@ pub struct Made {
 fn is_known(values: &[u8], count: u16, i: u16) -> bool
     ensures { result ≡ known values.now count i }
 {
-    if i < count {
-        return entries::code_at(values, codes::VALUE, 0, i) < 3;
-    }
-    false
+    i < count && entries::code_at(values, Kind::Value, 0, i) < 3
 }
 
 // The tag of value i.
@@ -29,7 +28,7 @@ pub fn tag_at(values: &[u8], count: u16, i: u16) -> u8
     ensures { result ≡ tag_at values.now count i }
 {
     if is_known(values, count, i) {
-        return entries::code_at(values, codes::VALUE, 0, i);
+        return entries::code_at(values, Kind::Value, 0, i);
     }
     0
 }
@@ -39,7 +38,7 @@ pub fn part_at(values: &[u8], count: u16, i: u16, j: u8) -> u16
     ensures { result ≡ part_at values.now count i j }
 {
     if is_known(values, count, i) {
-        return entries::field_at(values, codes::VALUE, 0, i, j) as u16;
+        return entries::field_at(values, Kind::Value, 0, i, j) as u16;
     }
     0
 }
@@ -48,14 +47,9 @@ pub fn part_at(values: &[u8], count: u16, i: u16, j: u8) -> u16
 fn put_numbers(out: &mut [u8], tag: u8, a: u16, b: u16)
     ensures { out.new ≡ over_if (five_bytes tag a b) out.old }
 {
-    buffers::put_five(
-        out,
-        tag,
-        (a / 256) as u8,
-        (a % 256) as u8,
-        (b / 256) as u8,
-        (b % 256) as u8,
-    );
+    let [a_high, a_low] = a.to_be_bytes();
+    let [b_high, b_low] = b.to_be_bytes();
+    buffers::copy(out, &[tag, a_high, a_low, b_high, b_low]);
 }
 
 // Writes them after n others of five bytes.
@@ -82,47 +76,37 @@ pub fn copy_values(values: &mut [u8], trace: &[u8])
 fn is_same(values: &[u8], count: u16, i: u16, tag: u8, a: u16, b: u16) -> bool
     ensures { result ≡ same_at values.now count tag a b i }
 {
-    if 0 < tag {
-        if entries::code_at(values, codes::VALUE, 0, i) != tag {
-            return false;
-        }
+    if 0 < tag && entries::code_at(values, Kind::Value, 0, i) != tag {
+        return false;
     }
-    if tag_at(values, count, i) == tag {
-        if part_at(values, count, i, 0) == a {
-            return part_at(values, count, i, 1) == b;
-        }
-    }
-    false
+    tag_at(values, count, i) == tag
+        && part_at(values, count, i, 0) == a
+        && part_at(values, count, i, 1) == b
 }
 
-// The first value that is so; the number of values where none is.
-fn find(values: &[u8], count: u16, tag: u8, a: u16, b: u16) -> u16
+// The first value that is so.
+fn find(values: &[u8], count: u16, tag: u8, a: u16, b: u16) -> Option<u16>
     ensures { result ≡ place_in values.now count tag a b }
 {
-    let mut i = 0;
-    while i < count {
-        if is_same(values, count, i, tag, a, b) {
-            return i;
-        }
-        i += 1;
-    }
-    count
+    (0..count).find(|&i| is_same(values, count, i, tag, a, b))
 }
 
 // The index of a value that is made of others, which is appended if it is not yet present.
 pub fn make(values: &mut [u8], count: u16, tag: u8, a: u16, b: u16) -> Made
     ensures { Makes values.old count tag a b values.new result }
 {
-    let i = find(values, count, tag, a, b);
-    if i < count {
-        return Made { index: i, count };
+    if let Some(index) = find(values, count, tag, a, b) {
+        return Made { index, count };
     }
-    if count == 65535 {
-        return Made { index: i, count };
+    if count == u16::MAX {
+        return Made {
+            index: count,
+            count,
+        };
     }
     append(values, count, tag, a, b);
     Made {
-        index: i,
+        index: count,
         count: count + 1,
     }
 }

@@ -133,31 +133,3 @@ leaf_is s n v (Basic channel) d = basic_by_tag s n v _ _ refl refl (Basic channe
 leaf_is s n v (Basic shkey) d = basic_by_tag s n v _ _ refl refl (Basic shkey) (omega arith) (omega arith)
 leaf_is s n v (Pair a b) d = absurd (d refl)
 leaf_is s n v (Cipher shared a) d = cipher_by_tag s n v _ refl a
-
--- ── An atom by its kind ──
-
-pub atom_name : (b t k : ℕ) → t ≡ 0 → b ≡ 1 → true ≡ atom_of b t k
-unfolding atom_of
-atom_name b t k e f = rw (e, f)
-
-pub atom_kind : (b t k : ℕ) → t ≡ 0 → ¬ (b ≡ 1) → eqb (k + 1) b ≡ atom_of b t k
-unfolding atom_of
-atom_kind b t k e f = rw (e, ne_eqb b 1 f)
-
-pub not_atom : (b t k : ℕ) → ¬ (t ≡ 0) → false ≡ atom_of b t k
-unfolding atom_of
-not_atom b t k f = rw (ne_eqb t 0 f)
-
--- ── A type that is no pair by its code ──
-
-pub leaf_message : (b t k : ℕ) → b ≡ 0 → true ≡ leaf_of b t k
-unfolding leaf_of
-leaf_message b t k e = rw e
-
-pub leaf_cipher : (b t k : ℕ) → b ≡ 5 → eqb t 2 ≡ leaf_of b t k
-unfolding leaf_of
-leaf_cipher b t k e = rw e
-
-pub leaf_basic : (b t k : ℕ) → ¬ (b ≡ 0) → ¬ (b ≡ 5) → atom_of b t k ≡ leaf_of b t k
-unfolding leaf_of
-leaf_basic b t k e f = rw (ne_eqb b 0 e, ne_eqb b 5 f)

@@ -2,16 +2,16 @@
 use mathlib.Core.Path.{◌≡◌, refl, sym, ap, ◌∙◌}
 use mathlib.Core.Bool.{Bool, true, false, ◌&&◌}
 use mathlib.Core.List.{List, [], ◌∷◌, ◌++◌}
-use Prim.Native.Nat.{ℕ, ◌+◌, ◌-◌, ◌<◌, ◌≤◌}
+use Prim.Native.Nat.{ℕ, ◌+◌, ◌<◌, ◌≤◌}
 use native.Mathlib.Omega.{arith}
+use Rattle.std.proofs.Common.{reverse}
+use Rattle.std.proofs.lemmas.List.{reverse-append, length-reverse}
 use lib.ListN.{length, take, drop, get_or, length-append, length-drop, length-take, take-append-drop}
 use Rattle.types.specs.Types.{Pair}
 use Rattle.types.specs.Prefix.{encoded}
 use Rattle.types.specs.Version1.{T, bytes, code1}
 use Rattle.type_bytes.specs.Ends.{Past}
-use Rattle.type_bytes.specs.Pending.{stacked}
 use Rattle.type_bytes.proofs.EndLaws.{tag, bytes_some, no_type, head_is, in_pair, as_pair}
-use Rattle.type_bytes.proofs.PendingLaws.{next_first, see_length}
 use Rattle.calculus.specs.Version1.{signature1}
 use Rattle.running.specs.Values.{visible, index}
 use Rattle.value_table.specs.Values.{table_at, tag_at, part_at}
@@ -62,90 +62,91 @@ module _ (t s : List ℕ) (p n v : ℕ) where
   unfolding Goes
   walk_start = record { rest = λ A x e k. (omega (arith, ap length e ∙ length-append (bytes A) x), (A, x, true, e, and_true (sees s n A v), (refl, refl))) }
 
-  pub walk_done : (at : ℕ) (a : List ℕ) (d : ℕ) → d ≡ 0 → Walked t p s n v at (stacked a d) → Seen t p s n v true
-  unfolding Goes stacked
-  walk_done at a d z g =
-      let k : Walked t p s n v at (stacked a 0) = rw z at g in
-      record { seen = λ A x e l. sym (k.rest A x e l).1.1 }
+  pub walk_done : (at : ℕ) (all : List ℕ) → ¬ (0 < length all) → Walked t p s n v at (reverse all) → Seen t p s n v true
+  unfolding Goes
+  walk_done at [] h g = record { seen = λ A x e l. sym (g.rest A x e l).1.1 }
+  walk_done at (w ∷ all) h g = absurd (h (omega arith))
 
 -- ── A value is looked at ──
 
--- value w is the next of d pending ones; vs are the others
-module _ (t s : List ℕ) (p n v at : ℕ) (a : List ℕ) (d : ℕ) (some : 0 < d) (all : Walked t p s n v at (stacked a d)) where
-  abbrev w : ℕ
-  w = get_or a (d - 1) 0
+-- the last of those that are kept is the next one
+next_last : (old new : List ℕ) (w : ℕ) → old ≡ new ++ (w ∷ []) → reverse old ≡ w ∷ reverse new
+next_last old new w e = rw (e, reverse-append)
 
+-- value w, the last of the pending ones, is taken
+module _ (t s : List ℕ) (p n v at : ℕ) (old new : List ℕ) (w : ℕ) (taken : old ≡ new ++ (w ∷ [])) (all : Walked t p s n v at (reverse old)) where
   abbrev vs : List ℕ
-  vs = stacked a (d - 1)
+  vs = reverse new
 
   g : Walked t p s n v at (w ∷ vs)
-  g = rw (next_first a d some) at all
+  g = rw (next_last old new w taken) at all
 
   pub walk_past : (r : Bool) → length t ≤ at → Seen t p s n v r
   unfolding Goes
   walk_past r h = record { seen = λ A x e k. let (f, o) = g.rest A x e k in let (B, m, q, i, j, z) = o in absurd (no_type t at B m h i) }
 
-  module _ (h : at < length t) where
+  -- the code there is c
+  module _ (h : at < length t) (c : ℕ) (there : c ≡ get_or t at 0) where
     -- what is found at a type's code: the answer, or how the walk goes on
-    module _ (no_pair : ¬ (get_or t at 0 ≡ 4)) (b : Bool) (l : b ≡ leaf_of (get_or t at 0) (tag_at s n w) (part_at s n w 0)) where
+    module _ (no_pair : ¬ (c ≡ 4)) (b : Bool) (l : b ≡ leaf_of c (tag_at s n w) (part_at s n w 0)) where
       looked : (B : T) (m : List ℕ) → drop at t ≡ bytes B ++ m → b ≡ sees s n B w
       looked B m i =
-          let c : get_or t at 0 ≡ tag B = head_is t at h B m i in
-          let l' : b ≡ leaf_of (tag B) (tag_at s n w) (part_at s n w 0) = rw c at l in
-          l' ∙ leaf_is s n w B (λ (y : tag B ≡ 4). no_pair (c ∙ y))
+          let k : c ≡ tag B = there ∙ head_is t at h B m i in
+          let l' : b ≡ leaf_of (tag B) (tag_at s n w) (part_at s n w 0) = rw k at l in
+          l' ∙ leaf_is s n w B (λ (y : tag B ≡ 4). no_pair (k ∙ y))
 
       pub walk_lacks : b ≡ false → Seen t p s n v false
       unfolding Goes
-      walk_lacks c = record {
+      walk_lacks r = record {
         seen = λ A x e k.
             let (f, o) = g.rest A x e k in let (B, m, q, i, j, z) = o in
-            let y : sees s n B w ≡ false = sym (looked B m i) ∙ c in
+            let y : sees s n B w ≡ false = sym (looked B m i) ∙ r in
             sym (rw y at j);
       }
 
       pub walk_leaf : b ≡ true → (m : ℕ) → Past t at m → Walked t p s n v m vs
       unfolding Goes
-      walk_leaf c e' past = record {
+      walk_leaf r e' past = record {
         rest = λ A x e k.
             let (f, o) = g.rest A x e k in let (B, m, q, i, j, z) = o in
-            let y : sees s n B w ≡ true = sym (looked B m i) ∙ c in
+            let y : sees s n B w ≡ true = sym (looked B m i) ∙ r in
             let j' : sees s n A v ≡ q = rw y at j in
             let u : drop e' t ≡ m = past.rest B m i in
             (omega (arith, f, ap length u, ap length i ∙ length-append (bytes B) m, bytes_some B), rw (u, j') z);
       }
 
-    module _ (pair : get_or t at 0 ≡ 4) where
+    module _ (pair : c ≡ 4) where
       -- a pair's parts
       abbrev Parts : T → Type 0
       Parts B = (C : T) × (D : T) × (B ≡ Pair C D)
 
       parts : (B : T) (m : List ℕ) → drop at t ≡ bytes B ++ m → Parts B
-      parts B m i = as_pair B (sym pair ∙ head_is t at h B m i)
+      parts B m i = as_pair B (sym pair ∙ there ∙ head_is t at h B m i)
 
       pub walk_not_pair : ¬ (tag_at s n w ≡ 1) → Seen t p s n v false
       unfolding Goes
-      walk_not_pair c = record {
+      walk_not_pair other = record {
         seen = λ A x e k.
             let (f, o) = g.rest A x e k in let (B, m, q, i, j, z) = o in
             let (C, D, c') = parts B m i in
-            let y : sees s n B w ≡ false = rw c' (no_pair_by_tag s n w (tag_at s n w) refl c C D) in
+            let y : sees s n B w ≡ false = rw c' (no_pair_by_tag s n w (tag_at s n w) refl other C D) in
             sym (rw y at j);
       }
 
       -- more than 128 values are never pending
-      pub walk_full : (r : Bool) → 128 ≤ d → Seen t p s n v r
+      pub walk_full : (r : Bool) → 126 < length new → Seen t p s n v r
       unfolding Goes
-      walk_full r c = record {
+      walk_full r full = record {
         seen = λ A x e k.
             let (f, o) = g.rest A x e k in let (B, m, q, i, j, z) = o in
             let (C, D, c') = parts B m i in
             let y : 3 ≤ length (bytes B) = rw c' (pair_bytes C D) in
-            absurd (omega (arith, f, ap length i ∙ length-append (bytes B) m, goes_length s n vs m x q z, see_length a (d - 1)));
+            absurd (omega (arith, f, ap length i ∙ length-append (bytes B) m, goes_length s n vs m x q z, length-reverse new));
       }
 
-      pub walk_pair : (l r : ℕ) → tag_at s n w ≡ 1 → l ≡ part_at s n w 0 → r ≡ part_at s n w 1 → Walked t p s n v (at + 1) (l ∷ r ∷ vs)
+      parts_pending : (l r : ℕ) → tag_at s n w ≡ 1 → l ≡ part_at s n w 0 → r ≡ part_at s n w 1 → Walked t p s n v (at + 1) (l ∷ r ∷ vs)
       unfolding Goes
-      walk_pair l r c x₀ x₁ = record {
+      parts_pending l r two x₀ x₁ = record {
         rest = λ A x e k.
             let (f, o) = g.rest A x e k in let (B, m, q, i, j, z) = o in
             let (C, D, c') = parts B m i in
@@ -158,7 +159,11 @@ module _ (t s : List ℕ) (p n v at : ℕ) (a : List ℕ) (d : ℕ) (some : 0 < 
       }
         where
           both : (B C D : T) → B ≡ Pair C D → sees s n B w ≡ (sees s n C l && sees s n D r)
-          both B C D o = rw (o, x₀, x₁) (pair_sees (table_at s n) w C D _ _ (entry_pair s n w c))
+          both B C D o = rw (o, x₀, x₁) (pair_sees (table_at s n) w C D _ _ (entry_pair s n w two))
+
+      pub walk_pair : (l r : ℕ) → tag_at s n w ≡ 1 → l ≡ part_at s n w 0 → r ≡ part_at s n w 1
+          → (m o : List ℕ) → m ≡ new ++ (r ∷ []) → o ≡ m ++ (l ∷ []) → Walked t p s n v (at + 1) (reverse o)
+      walk_pair l r two x₀ x₁ m o i j = rw (next_last o m l j, next_last m new r i) (parts_pending l r two x₀ x₁)
 
 -- ── What the answer says where the type's length is known ──
 

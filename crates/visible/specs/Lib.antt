@@ -1,3 +1,2 @@
 -- What the promises of `visible` speak of.
 pub mod Seen
-pub mod Pending

@@ -4,10 +4,8 @@ use mathlib.Core.Bool.{Bool, true, false, ◌&&◌}
 use mathlib.Core.List.{List, [], ◌∷◌}
 use Prim.Native.Nat.{ℕ, ◌-◌}
 use lib.ListN.{length}
-use Rattle.answers.specs.Ladder.{refusal, least}
+use Rattle.answers.specs.Ladder.{refusal, least, Check}
 use Rattle.answers.specs.declared.Refusal.{Refusal}
-use Rattle.answers.specs.declared.Check.{Check}
-use Rattle.answers.specs.declared.Check.TheVariants.{Pass, Refuse}
 use Rattle.entries.specs.Tiling.{listed, joined}
 use Rattle.table_layout.specs.Layout.{symbols}
 use Rattle.table.specs.Faults.{table_rungs}
@@ -40,6 +38,7 @@ use Rattle.compile_service.specs.Files.{list_file}
 use Rattle.judge_service.specs.Judged.{verdict_check}
 use Rattle.run_service.specs.Read.{process_of}
 use Rattle.worked.specs.Examples.{Messages, Example, refused_table, typed, compiled, judged_as, ran_as}
+use Rattle.std.proofs.Common.{Ok, Err}
 
 -- ── Tables ──
 
@@ -55,8 +54,8 @@ inferred (untyped k) = turned_down (refusal 10 0 k)
 
 -- by the checks 1 to 9 before it
 unfoldable pub checked : Check → Answer signature1 → Typing
-checked Pass a = inferred a
-checked (Refuse x) a = turned_down x
+checked (Ok tt) a = inferred a
+checked (Err x) a = turned_down x
 
 -- of a table's bytes
 unfoldable pub typing_of : List ℕ → Typing
@@ -77,7 +76,7 @@ expected (refused_table t x) = refuses x
 expected (typed t bytes) = writes bytes
 expected (compiled t bytes) = writes bytes
 expected (judged_as t l c) = judges c l
-expected (ran_as t l tr r v o told all) = runs (judges Pass l) Pass true r v o told all
+expected (ran_as t l tr r v o told all) = runs (judges (Ok tt) l) (Ok tt) true r v o told all
 
 -- a file that is made of the widest types
 unfoldable pub file_outcome : (Env signature1 → List ℕ) → Typing → Outcome
@@ -90,12 +89,12 @@ as_widest t l Γ = record { types = types_to Γ (symbols t); statements = statem
 
 -- a list after its checks 1 to 5
 unfoldable pub list_outcome : List ℕ → List ℕ → Env signature1 → Check → Outcome
-list_outcome t l Γ Pass = judges (verdict_check (judge signature1 halves (table_of t) (statements_of l))) (list_bytes (as_widest t l Γ))
-list_outcome t l Γ (Refuse x) = judges (Refuse x) l
+list_outcome t l Γ (Ok tt) = judges (verdict_check (judge signature1 halves (table_of t) (statements_of l))) (list_bytes (as_widest t l Γ))
+list_outcome t l Γ (Err x) = judges (Err x) l
 
 -- a list after the table's typing
 unfoldable pub judge_outcome : List ℕ → List ℕ → Typing → Outcome
-judge_outcome t l (turned_down x) = judges (Refuse x) l
+judge_outcome t l (turned_down x) = judges (Err x) l
 judge_outcome t l (types_are Γ) = list_outcome t l Γ (least (list_rungs l (free_count t)))
 
 -- each free symbol has a starting value that visibly has its type

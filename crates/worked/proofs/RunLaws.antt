@@ -6,7 +6,6 @@ use Prim.Native.Nat.{ℕ, suc, ◌≤◌}
 use native.Mathlib.Omega.{arith}
 use lib.ListN.{length}
 use Rattle.answers.specs.Ladder.{least}
-use Rattle.answers.specs.declared.Check.TheVariants.{Pass}
 use Rattle.entries.specs.Tiling.{listed, joined}
 use Rattle.entries.proofs.Tiling.{listed_length}
 use Rattle.table_layout.specs.Layout.{symbols}
@@ -40,6 +39,7 @@ use Rattle.run_service.proofs.ReadBack.{run_reads_back}
 use Rattle.worked.specs.Examples.{Messages, Runs}
 use Rattle.worked.proofs.Computed.{Typing, judges, runs, list_outcome, starts_ok, ran_of, result_outcome, run_outcome}
 use Rattle.worked.proofs.TableLaws.{only_run, TypingIs, is_refused, is_typed, list_outcome_lem, list_decoded}
+use Rattle.std.proofs.Common.{Ok}
 
 -- ── Number 14 ──
 
@@ -59,7 +59,7 @@ as_many starts_nil = refl
 as_many (starts_cons v s) = ap (λ (n : ℕ). suc n) (as_many s)
 
 -- so number 14 does not apply
-fourteen_passes : (t : List ℕ) (As : List T) (tr : List ℕ) → starts_ok (types_of signature1 As) (values_of tr) (free_of t) (listed (starting tr) 0 (startings tr)) ≡ true → Fourteen t As tr Pass
+fourteen_passes : (t : List ℕ) (As : List T) (tr : List ℕ) → starts_ok (types_of signature1 As) (values_of tr) (free_of t) (listed (starting tr) 0 (startings tr)) ≡ true → Fourteen t As tr (Ok tt)
 fourteen_passes t As tr e =
     let s = starts_ok_lem (types_of signature1 As) (values_of tr) (free_of t) (listed (starting tr) 0 (startings tr)) e in
     starts (sym (listed_length (starting tr) 0 (startings tr)) ∙ as_many s) s
@@ -75,14 +75,14 @@ told_of tr z y R = record { ending = refl; place = refl; used = refl; logged = r
 module _ (t l tr : List ℕ) (r : Ran) (values messages : List ℕ) (told all : Messages) where
   -- under the widest types
   result_runs : (Γ : Env signature1) → IsWidest t Γ
-      → result_outcome t l tr (types_to Γ (symbols t)) (list_outcome t l Γ (least (list_rungs l (free_count t)))) ≡ runs (judges Pass l) Pass true r values messages told all
+      → result_outcome t l tr (types_to Γ (symbols t)) (list_outcome t l Γ (least (list_rungs l (free_count t)))) ≡ runs (judges (Ok tt) l) (Ok tt) true r values messages told all
       → Runs t l tr r values messages told all
   unfolding result_outcome run_of
   result_runs Γ w e =
       let As = types_to Γ (symbols t) in
       let R = run_of l tr As in
-      let judged : list_outcome t l Γ (least (list_rungs l (free_count t))) ≡ judges Pass l = cc in
-      let sound : least (trace_rungs tr) ≡ Pass = cc in
+      let judged : list_outcome t l Γ (least (list_rungs l (free_count t))) ≡ judges (Ok tt) l = cc in
+      let sound : least (trace_rungs tr) ≡ (Ok tt) = cc in
       let start : starts_ok (types_of signature1 As) (values_of tr) (free_of t) (listed (starting tr) 0 (startings tr)) ≡ true = cc in
       let answer : ran_of tr R ≡ r = cc in
       let store : joined value_bytes R.store ≡ values = cc in
@@ -90,17 +90,17 @@ module _ (t l tr : List ℕ) (r : Ran) (values messages : List ℕ) (told all : 
       let terms : said signature1 (by_types (types_of signature1 As)) (statements_of l) (trace_of tr) ≡ told = cc in
       let process : (process_of t tr).log ≡ all = cc in
       let d : Decoded l = record { types = As; is_file = sym (list_decoded t l Γ (least (list_rungs l (free_count t))) judged) } in
-      let s : Sound t l tr = record { accepted = list_outcome_lem t l Γ (least (list_rungs l (free_count t))) Pass w refl judged; trace_sound = sound; decoded = d; starts = fourteen_passes t As tr start } in
-      let ran_so : (z y : List ℕ) → value_need l tr ≤ length z → message_need l ≤ length y → RunAnswered t l tr z y (over values z) (over messages y) Pass r =
+      let s : Sound t l tr = record { accepted = list_outcome_lem t l Γ (least (list_rungs l (free_count t))) (Ok tt) w refl judged; trace_sound = sound; decoded = d; starts = fourteen_passes t As tr start } in
+      let ran_so : (z y : List ℕ) → value_need l tr ≤ length z → message_need l ≤ length y → RunAnswered t l tr z y (over values z) (over messages y) (Ok r) =
       λ z y h k. rw (← answer, ← store, ← log) (ran (record { sound = s; value_room = h; message_room = k }) (told_of tr z y R)) in
       record {
-        answers = λ z y h k. only_run t l tr z y (over values z) (over messages y) Pass r (ran_so z y h k);
+        answers = λ z y h k. only_run t l tr z y (over values z) (over messages y) (Ok r) (ran_so z y h k);
         list_says = λ z y h k. let (b, c, n) = run_reads_back t l tr z y (over values z) (over messages y) r d (ran_so z y h k) in n ∙ terms;
         process_says = process;
       }
 
   -- after the table's typing
-  pub outcome_runs : (a : Typing) → TypingIs t a → run_outcome t l tr a ≡ runs (judges Pass l) Pass true r values messages told all → Runs t l tr r values messages told all
+  pub outcome_runs : (a : Typing) → TypingIs t a → run_outcome t l tr a ≡ runs (judges (Ok tt) l) (Ok tt) true r values messages told all → Runs t l tr r values messages told all
   unfolding run_outcome
   outcome_runs a (is_refused q) e = let y : ◌≡◌ {A = ℕ} 0 1 = cc in absurd (omega arith)
   outcome_runs a (is_typed {Γ = Γ} w) e = result_runs Γ w e

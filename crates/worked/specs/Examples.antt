@@ -1,9 +1,7 @@
 -- What an example is, and when it holds: the services' promises have that answer and those bytes, and no other. Assumes nothing: these
 -- are definitions.
-use Rattle.std.specs.Prelude.{◌≡◌, List, ℕ, ◌≤◌, length}
+use Rattle.std.specs.Prelude.{◌≡◌, List, ℕ, ◌≤◌, length, Result, Ok, Err}
 use Rattle.answers.specs.declared.Refusal.{Refusal}
-use Rattle.answers.specs.declared.Check.{Check}
-use Rattle.answers.specs.declared.Check.TheVariants.{Pass, Refuse}
 use Rattle.buffers.specs.Over.{over}
 use Rattle.calculus.specs.Terms.{Value}
 use Rattle.calculus.specs.Figure2.{Env}
@@ -13,8 +11,9 @@ use Rattle.machine.specs.declared.Ran.{Ran}
 use Rattle.type_service.specs.Services.{Answered, types_file}
 use Rattle.compile_service.specs.Files.{list_file}
 use Rattle.judge_service.specs.Judged.{Judged}
-use Rattle.run_service.specs.Runs.{value_need, message_need, no_run, RunAnswered}
+use Rattle.run_service.specs.Runs.{value_need, message_need, RunAnswered}
 use Rattle.run_service.specs.Read.{messages_read, process_of}
+use Rattle.answers.specs.Ladder.{Check}
 
 -- messages as terms
 abbrev pub Messages : Type 0
@@ -41,29 +40,29 @@ pub data Example : Type 0 where
 abbrev pub Only : {A : Type 0} → (A → Type 0) → A → Type 0
 Only {A} P a = P a × ((b : A) → P b → b ≡ a)
 
--- a service that writes a file, with the buffer z: its answer, the count, and the buffer after it
-abbrev pub Filed : (List ℕ → Env signature1 → List ℕ) → List ℕ → List ℕ → Check × ℕ × List ℕ → Type 0
-Filed file t z r = Answered (file t) t z r.2 r.0 r.1
+-- a service that writes a file, with the buffer z: its answer, and the buffer after it
+abbrev pub Filed : (List ℕ → Env signature1 → List ℕ) → List ℕ → List ℕ → Result ℕ Refusal × List ℕ → Type 0
+Filed file t z r = Answered (file t) t z r.1 r.0
 
--- a run with the buffers z and y: its two answers, and the buffers after it
-abbrev pub Running : List ℕ → List ℕ → List ℕ → List ℕ → List ℕ → Check × Ran × List ℕ × List ℕ → Type 0
-Running t l tr z y r = RunAnswered t l tr z y r.2 r.3 r.0 r.1
+-- a run with the buffers z and y: its answer, and the buffers after it
+abbrev pub Running : List ℕ → List ℕ → List ℕ → List ℕ → List ℕ → Result Ran Refusal × List ℕ × List ℕ → Type 0
+Running t l tr z y r = RunAnswered t l tr z y r.1 r.2 r.0
 
 -- all four services refuse the table, whatever else they are given; the buffers stay as they were
 pub record Refused (t : List ℕ) (x : Refusal) : Type 0 where
-  pub by_type : (z : List ℕ) → Only (Filed types_file t z) (Refuse x, 0, z)
-  pub by_compile : (z : List ℕ) → Only (Filed list_file t z) (Refuse x, 0, z)
-  pub by_judge : (l : List ℕ) → Only (Judged t l) (Refuse x)
-  pub by_run : (l tr z y : List ℕ) → Only (Running t l tr z y) (Refuse x, no_run, z, y)
+  pub by_type : (z : List ℕ) → Only (Filed types_file t z) (Err x, z)
+  pub by_compile : (z : List ℕ) → Only (Filed list_file t z) (Err x, z)
+  pub by_judge : (l : List ℕ) → Only (Judged t l) (Err x)
+  pub by_run : (l tr z y : List ℕ) → Only (Running t l tr z y) (Err x, z, y)
 
 -- a service writes these bytes to the start of every buffer that is long enough; bytes beyond keep their values
 abbrev pub Writes : (List ℕ → Env signature1 → List ℕ) → List ℕ → List ℕ → Type 0
-Writes file t bytes = (z : List ℕ) → length bytes ≤ length z → Only (Filed file t z) (Pass, length bytes, over bytes z)
+Writes file t bytes = (z : List ℕ) → length bytes ≤ length z → Only (Filed file t z) (Ok (length bytes), over bytes z)
 
 -- a run in buffers that are long enough has this answer, writes these bytes of values and of messages, which as terms are said; and the
 -- process says all these
 pub record Runs (t l tr : List ℕ) (answer : Ran) (values messages : List ℕ) (said all : Messages) : Type 0 where
-  pub answers : (z y : List ℕ) → value_need l tr ≤ length z → message_need l ≤ length y → Only (Running t l tr z y) (Pass, answer, over values z, over messages y)
+  pub answers : (z y : List ℕ) → value_need l tr ≤ length z → message_need l ≤ length y → Only (Running t l tr z y) (Ok answer, over values z, over messages y)
   pub list_says : (z y : List ℕ) → value_need l tr ≤ length z → message_need l ≤ length y → messages_read (over values z) (over messages y) answer ≡ said
   pub process_says : (process_of t tr).log ≡ all
 

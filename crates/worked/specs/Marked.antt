@@ -1,6 +1,5 @@
 -- Document 01's marked examples E1 to E12 as one table, and the statement that they hold. Assumes nothing: these are definitions.
-use Rattle.std.specs.Prelude.{List, [], ◌∷◌, ◌++◌, ℕ, ◌*◌, replicate}
-use Rattle.answers.specs.declared.Check.TheVariants.{Pass, Refuse}
+use Rattle.std.specs.Prelude.{List, [], ◌∷◌, ◌++◌, ℕ, ◌*◌, replicate, Ok, Err}
 use Rattle.answers.specs.Ladder.{refusal}
 use Rattle.calculus.specs.Signature.{seal}
 use Rattle.calculus.specs.Terms.{atom, leaf, two, Value}
@@ -186,7 +185,7 @@ sent12 = logged sent (leaf (atom 1 0)) (leaf (atom 1 0))
 abbrev pub examples : List Example
 examples =
     -- E1: its types, and its list, which the judge accepts; run, it finishes, and says what the process says
-    typed e1 types1 ∷ compiled e1 list1 ∷ judged_as e1 list1 Pass ∷ ran_as e1 list1 trace1 ran1 values1 messages1 (received1 ∷ sent1 ∷ []) (received1 ∷ sent1 ∷ []) ∷
+    typed e1 types1 ∷ compiled e1 list1 ∷ judged_as e1 list1 (Ok tt) ∷ ran_as e1 list1 trace1 ran1 values1 messages1 (received1 ∷ sent1 ∷ []) (received1 ∷ sent1 ∷ []) ∷
     -- E2: accepted
     typed e2 [] ∷ compiled e2 list2 ∷
     -- E3
@@ -202,7 +201,7 @@ examples =
     -- E9: bound again; E10: used before it is bound
     refused_table e9 (refusal 8 0 0) ∷ refused_table e10 (refusal 9 0 0) ∷
     -- E11: the sending is not due; register 3 is not given
-    judged_as e1 (list11 2) (Refuse (refusal 12 1 1)) ∷ judged_as e1 (list11 3) (Refuse (refusal 5 1 21)) ∷
+    judged_as e1 (list11 2) (Err (refusal 12 1 1)) ∷ judged_as e1 (list11 3) (Err (refusal 5 1 21)) ∷
     -- E12: the list ends early; the process sends
     compiled e12 list12 ∷ ran_as e12 list12 trace12 ran12 values12 messages12 (received12 ∷ []) (received12 ∷ sent12 ∷ []) ∷ []
 

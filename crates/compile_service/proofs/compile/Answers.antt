@@ -1,10 +1,9 @@
 -- `compile_service::compile` meets its contract. Assumes nothing.
-use Rattle.std.proofs.Common.{ℕ, ◌≡◌, ◌+◌, ◌-◌, ◌*◌, ◌≤◌, List, length, take, drop, arith}
+use Rattle.std.proofs.Common.{ℕ, ◌≡◌, ◌+◌, ◌-◌, ◌*◌, ◌≤◌, List, length, take, drop, arith, Ok}
+use Rattle.answers.proofs.Layers.{passed_on}
 use borrow.Author.Rules.{rules}
 use borrow.Rule.Slice.PartMut.{put_mid}
-use Rattle.answers.specs.Ladder.{least}
-use Rattle.answers.specs.declared.Check.{Check}
-use Rattle.answers.specs.declared.Check.TheVariants.{Pass}
+use Rattle.answers.specs.Ladder.{least, Check}
 use Rattle.buffers.specs.Over.{over}
 use Rattle.rendering.specs.Rendering.{halves}
 use Rattle.rendering.specs.Translation.{translation}
@@ -15,7 +14,7 @@ use Rattle.decoded.specs.Table.{table_of}
 use Rattle.decoded_list.specs.Bytes.{header_bytes}
 use Rattle.type_lists.specs.Lists.{SizeIs, TypesPut}
 use Rattle.type_service.specs.Services.{SlotsTyped, RoomChecked, types_file}
-use Rattle.type_service.proofs.ServiceLaws.{Typed, typed, types_counted, types_written, passed_on, no_room, room_for, all_written}
+use Rattle.type_service.proofs.ServiceLaws.{Typed, typed, types_counted, types_written, not_typed, no_room, room_for, all_written}
 use Rattle.compile_service.specs.Files.{list_file}
 use Rattle.compile_service.proofs.FileLaws.{few_statements, need_is, Fits, room_header, length_header, types_fit, length_types, written_file}
 use Rattle.compile_service.proofs.compile.Goals as goal
@@ -23,11 +22,11 @@ use Rattle.compile_service.proofs.compile.Goals as goal
 -- ── What is known on the way ──
 
 -- the slots o hold the widest types of the table s
-slots : (s o : List ℕ) (m : ℕ) {a : Check} → SlotsTyped s o a → a ≡ Pass → m ≡ symbols s → Typed s o m
+slots : (s o : List ℕ) (m : ℕ) {a : Check} → SlotsTyped s o a → a ≡ Ok tt → m ≡ symbols s → Typed s o m
 slots s o m t p e = typed s o m (rw p at t) e
 
 -- the parts are counted: the list's bytes are known
-module _ {s o : List ℕ} {m : ℕ} (q : Typed s o m) {size : ℕ} (i : SizeIs o m size) {n : ℕ} (k : least (table_rungs s) ≡ Pass → n ≡ length (translation signature1 halves (table_of s))) where
+module _ {s o : List ℕ} {m : ℕ} (q : Typed s o m) {size : ℕ} (i : SizeIs o m size) {n : ℕ} (k : least (table_rungs s) ≡ Ok tt → n ≡ length (translation signature1 halves (table_of s))) where
   sized : size ≡ length (types_file s q.Γ)
   sized = types_counted s o m q size i
 
@@ -41,7 +40,7 @@ module _ {s o : List ℕ} {m : ℕ} (q : Typed s o m) {size : ℕ} (i : SizeIs o
   needed = need_is s q.Γ size n sized counted
 
   -- number 15 is passed: the list has room
-  module _ (z : List ℕ) {b : Check} (r : RoomChecked (8 + size + 4 * n) (length z) b) (p : b ≡ Pass) where
+  module _ (z : List ℕ) {b : Check} (r : RoomChecked (8 + size + 4 * n) (length z) b) (p : b ≡ Ok tt) where
     fits : Fits s q.Γ size n z
     fits = record { widest = q.widest; sized = sized; counted = counted; room = room_for (list_file s) s z q.Γ q.widest (8 + size + 4 * n) needed b r p }
 
@@ -69,54 +68,54 @@ module _ {s o : List ℕ} {m : ℕ} (q : Typed s o m) {size : ℕ} (i : SizeIs o
 
 -- ── The goals ──
 
-pub returns-in_default : goal.returns-in_default
-returns-in_default c = passed_on _ _ _ _ _ _ (c.type_slots-a.ensures.typed (search rules)) c.in_default.is
+pub returns-in_err-type_slots : goal.returns-in_err-type_slots
+returns-in_err-type_slots c = not_typed _ _ _ _ _ _ _ (c.type_slots.ensures.typed (search rules)) c.in_err-type_slots.was (passed_on c.from_residual.ensures.1)
 
 pub overflow_mul-need : goal.overflow_mul-need
 overflow_mul-need c =
-    let q = slots c.args.table.now c.type_slots-a.new.work c.symbol_count-s.result (c.type_slots-a.ensures.typed (search rules)) c.in-Pass.is c.symbol_count-s.ensures in
+    let q = slots c.args.table.now c.type_slots.new.work c.symbol_count-s.result (c.type_slots.ensures.typed (search rules)) c.in_ok-type_slots.was c.symbol_count-s.ensures in
     omega (arith, few q c.types_size-at.ensures c.statement_count-n.ensures.known)
 
 pub overflow_add-need : goal.overflow_add-need
 overflow_add-need c =
-    let q = slots c.args.table.now c.type_slots-a.new.work c.symbol_count-s.result (c.type_slots-a.ensures.typed (search rules)) c.in-Pass.is c.symbol_count-s.ensures in
+    let q = slots c.args.table.now c.type_slots.new.work c.symbol_count-s.result (c.type_slots.ensures.typed (search rules)) c.in_ok-type_slots.was c.symbol_count-s.ensures in
     omega (arith, few q c.types_size-at.ensures c.statement_count-n.ensures.known, q.few, c.types_size-at.ensures.small)
 
-pub returns-in_default-b : goal.returns-in_default-b
-returns-in_default-b c =
-    let q = slots c.args.table.now c.type_slots-a.new.work c.symbol_count-s.result (c.type_slots-a.ensures.typed (search rules)) c.in-Pass.is c.symbol_count-s.ensures in
-    no_room (list_file c.args.table.now) c.args.table.now c.args.out.now q.Γ q.widest _ (needed q c.types_size-at.ensures c.statement_count-n.ensures.known) _ _ c.check_room-b.ensures c.in_default-b.is
+pub returns-in_err-check_room : goal.returns-in_err-check_room
+returns-in_err-check_room c =
+    let q = slots c.args.table.now c.type_slots.new.work c.symbol_count-s.result (c.type_slots.ensures.typed (search rules)) c.in_ok-type_slots.was c.symbol_count-s.ensures in
+    no_room (list_file c.args.table.now) c.args.table.now c.args.out.now q.Γ q.widest _ (needed q c.types_size-at.ensures c.statement_count-n.ensures.known) _ _ _ c.check_room.ensures c.in_err-check_room.was (passed_on c.from_residual-in_err-check_room.ensures.1)
 
 pub put_header-requires : goal.put_header-requires
 put_header-requires c =
-    let q = slots c.args.table.now c.type_slots-a.new.work c.symbol_count-s.result (c.type_slots-a.ensures.typed (search rules)) c.in-Pass.is c.symbol_count-s.ensures in
-    (omega (arith, few q c.types_size-at.ensures c.statement_count-n.ensures.known), room_header (fits q c.types_size-at.ensures c.statement_count-n.ensures.known _ c.check_room-b.ensures c.in-Pass-b.is))
+    let q = slots c.args.table.now c.type_slots.new.work c.symbol_count-s.result (c.type_slots.ensures.typed (search rules)) c.in_ok-type_slots.was c.symbol_count-s.ensures in
+    (omega (arith, few q c.types_size-at.ensures c.statement_count-n.ensures.known), room_header (fits q c.types_size-at.ensures c.statement_count-n.ensures.known _ c.check_room.ensures c.in_ok-check_room.was))
 
 pub slice_bounds-put_types-count : goal.slice_bounds-put_types-count
 slice_bounds-put_types-count c =
-    let q = slots c.args.table.now c.type_slots-a.new.work c.symbol_count-s.result (c.type_slots-a.ensures.typed (search rules)) c.in-Pass.is c.symbol_count-s.ensures in
-    header_room q c.types_size-at.ensures c.statement_count-n.ensures.known _ c.check_room-b.ensures c.in-Pass-b.is c.put_header.ensures
+    let q = slots c.args.table.now c.type_slots.new.work c.symbol_count-s.result (c.type_slots.ensures.typed (search rules)) c.in_ok-type_slots.was c.symbol_count-s.ensures in
+    header_room q c.types_size-at.ensures c.statement_count-n.ensures.known _ c.check_room.ensures c.in_ok-check_room.was c.put_header.ensures
 
 pub slice_bounds-put_types-start : goal.slice_bounds-put_types-start
 slice_bounds-put_types-start c =
-    let q = slots c.args.table.now c.type_slots-a.new.work c.symbol_count-s.result (c.type_slots-a.ensures.typed (search rules)) c.in-Pass.is c.symbol_count-s.ensures in
-    header_room q c.types_size-at.ensures c.statement_count-n.ensures.known _ c.check_room-b.ensures c.in-Pass-b.is c.put_header.ensures
+    let q = slots c.args.table.now c.type_slots.new.work c.symbol_count-s.result (c.type_slots.ensures.typed (search rules)) c.in_ok-type_slots.was c.symbol_count-s.ensures in
+    header_room q c.types_size-at.ensures c.statement_count-n.ensures.known _ c.check_room.ensures c.in_ok-check_room.was c.put_header.ensures
 
 pub slice_bounds-write_statements-count : goal.slice_bounds-write_statements-count
 slice_bounds-write_statements-count c =
-    let q = slots c.args.table.now c.type_slots-a.new.work c.symbol_count-s.result (c.type_slots-a.ensures.typed (search rules)) c.in-Pass.is c.symbol_count-s.ensures in
-    types_room q c.types_size-at.ensures c.statement_count-n.ensures.known _ c.check_room-b.ensures c.in-Pass-b.is c.put_header.ensures c.put_types.auto.out c.put_types.ensures
+    let q = slots c.args.table.now c.type_slots.new.work c.symbol_count-s.result (c.type_slots.ensures.typed (search rules)) c.in_ok-type_slots.was c.symbol_count-s.ensures in
+    types_room q c.types_size-at.ensures c.statement_count-n.ensures.known _ c.check_room.ensures c.in_ok-check_room.was c.put_header.ensures c.put_types.auto.out c.put_types.ensures
 
 pub slice_bounds-write_statements-start : goal.slice_bounds-write_statements-start
 slice_bounds-write_statements-start c =
-    let q = slots c.args.table.now c.type_slots-a.new.work c.symbol_count-s.result (c.type_slots-a.ensures.typed (search rules)) c.in-Pass.is c.symbol_count-s.ensures in
-    types_room q c.types_size-at.ensures c.statement_count-n.ensures.known _ c.check_room-b.ensures c.in-Pass-b.is c.put_header.ensures c.put_types.auto.out c.put_types.ensures
+    let q = slots c.args.table.now c.type_slots.new.work c.symbol_count-s.result (c.type_slots.ensures.typed (search rules)) c.in_ok-type_slots.was c.symbol_count-s.ensures in
+    types_room q c.types_size-at.ensures c.statement_count-n.ensures.known _ c.check_room.ensures c.in_ok-check_room.was c.put_header.ensures c.put_types.auto.out c.put_types.ensures
 
 pub returns : goal.returns
 returns c =
-    let q = slots c.args.table.now c.type_slots-a.new.work c.symbol_count-s.result (c.type_slots-a.ensures.typed (search rules)) c.in-Pass.is c.symbol_count-s.ensures in
-    let r = c.check_room-b.ensures in
-    let e = c.in-Pass-b.is in
+    let q = slots c.args.table.now c.type_slots.new.work c.symbol_count-s.result (c.type_slots.ensures.typed (search rules)) c.in_ok-type_slots.was c.symbol_count-s.ensures in
+    let r = c.check_room.ensures in
+    let e = c.in_ok-check_room.was in
     let h = c.put_header.ensures in
     let l = c.put_types.auto.out in
     all_written (list_file c.args.table.now) c.args.table.now c.args.out.now q.Γ q.widest _ (needed q c.types_size-at.ensures c.statement_count-n.ensures.known) _ _ r e

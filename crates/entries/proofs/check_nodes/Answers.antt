@@ -1,24 +1,18 @@
 -- `entries::check_nodes` meets its contract. Assumes nothing.
-use mathlib.Core.Path.{refl, sym, ◌∙◌}
-use native.Mathlib.Omega.{arith}
+use mathlib.Core.Path.{◌∙◌}
 use borrow.Author.Rules.{rules}
-use Rattle.answers.proofs.Ladder.{rung_found, rung_clean}
-use Rattle.base.proofs.Searched.{first_right}
+use borrow.Author.Tests.{tests}
+use Rattle.base.proofs.Ranges.{find_in_range}
+use Rattle.answers.proofs.Finds.{find_passes, find_refuses}
 use Rattle.entries.specs.Faults.{node_rung}
+use Rattle.codes.specs.Kinds.{kind_number}
+use Rattle.answers.specs.Files.{file_number}
 use Rattle.entries.proofs.check_nodes.Goals as goal
 
-pub loop-i-init : goal.loop-i-init
-loop-i-init c = (search rules, refl)
+pub returns-in-None : goal.returns-in-None
+returns-in-None c =
+    find_passes (node_rung c.args.s.now (kind_number c.args.kind) (file_number c.args.file) c.args.version c.args.base c.args.symbols c.args.count) (find_in_range _ _ _ _ c.find.ensures.ran (λ x b q k. search (rules, tests))) c.in-None.is
 
-pub returns-then-not-node_ok : goal.returns-then-not-node_ok
-returns-then-not-node_ok c =
-    let a = c.args in
-    c.refuse.ensures ∙ rung_found (node_rung a.s.now a.kind a.file a.version a.base a.symbols a.count) _ _ c.loop-i.invariant.1 c.loop-i-test.true (sym c.node_ok.ensures ∙ c.if-not-node_ok.true) (rw c.place_of.ensures)
-
-pub loop-i-preserved : goal.loop-i-preserved
-loop-i-preserved c = (omega arith, c.loop-i.invariant.1 ∙ first_right _ _ _ c.loop-i-test.true (sym c.node_ok.ensures ∙ c.if-not-node_ok.false))
-
-pub returns : goal.returns
-returns c =
-    let a = c.args in
-    rung_clean (node_rung a.s.now a.kind a.file a.version a.base a.symbols a.count) _ c.loop-i.invariant.1 c.loop-i-test.false
+pub returns-in-Some : goal.returns-in-Some
+returns-in-Some c =
+    c.refuse.ensures ∙ find_refuses (node_rung c.args.s.now (kind_number c.args.kind) (file_number c.args.file) c.args.version c.args.base c.args.symbols c.args.count) (find_in_range _ _ _ _ c.find.ensures.ran (λ x b q k. search (rules, tests))) c.in-Some.is (rw c.place_of.ensures)

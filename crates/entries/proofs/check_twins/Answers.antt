@@ -1,24 +1,18 @@
 -- `entries::check_twins` meets its contract. Assumes nothing.
-use mathlib.Core.Path.{refl, sym, ◌∙◌}
-use native.Mathlib.Omega.{arith}
+use mathlib.Core.Path.{refl, ◌∙◌}
 use borrow.Author.Rules.{rules}
-use Rattle.answers.proofs.Ladder.{rung_found, rung_clean}
-use Rattle.base.proofs.Searched.{first_right}
+use borrow.Author.Tests.{tests}
+use Rattle.base.proofs.Ranges.{find_in_range}
+use Rattle.answers.proofs.Finds.{find_passes, find_refuses}
 use Rattle.entries.specs.Faults.{twin_rung}
+use Rattle.codes.specs.Kinds.{kind_number}
+use Rattle.answers.specs.Files.{file_number}
 use Rattle.entries.proofs.check_twins.Goals as goal
 
-pub loop-i-init : goal.loop-i-init
-loop-i-init c = (search rules, refl)
+pub returns-in-None : goal.returns-in-None
+returns-in-None c =
+    find_passes (twin_rung c.args.s.now (kind_number c.args.kind) (file_number c.args.file) c.args.base c.args.count) (find_in_range _ _ _ _ c.find.ensures.ran (λ x b q k. search (rules, tests))) c.in-None.is
 
-pub returns-then-not-is_alone : goal.returns-then-not-is_alone
-returns-then-not-is_alone c =
-    let a = c.args in
-    c.refuse.ensures ∙ rung_found (twin_rung a.s.now a.kind a.file a.base a.count) _ _ c.loop-i.invariant.1 c.loop-i-test.true (sym c.is_alone.ensures ∙ c.if-not-is_alone.true) refl
-
-pub loop-i-preserved : goal.loop-i-preserved
-loop-i-preserved c = (omega arith, c.loop-i.invariant.1 ∙ first_right _ _ _ c.loop-i-test.true (sym c.is_alone.ensures ∙ c.if-not-is_alone.false))
-
-pub returns : goal.returns
-returns c =
-    let a = c.args in
-    rung_clean (twin_rung a.s.now a.kind a.file a.base a.count) _ c.loop-i.invariant.1 c.loop-i-test.false
+pub returns-in-Some : goal.returns-in-Some
+returns-in-Some c =
+    c.refuse.ensures ∙ find_refuses (twin_rung c.args.s.now (kind_number c.args.kind) (file_number c.args.file) c.args.base c.args.count) (find_in_range _ _ _ _ c.find.ensures.ran (λ x b q k. search (rules, tests))) c.in-Some.is refl

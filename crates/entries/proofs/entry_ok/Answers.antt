@@ -7,6 +7,6 @@ pub returns-then-code_known : goal.returns-then-code_known
 unfolding entry_ok
 returns-then-code_known c = rw (← c.code_at.ensures, sym c.code_known.ensures ∙ c.if-code_known.true) c.fields_ok.ensures
 
-pub returns : goal.returns
+pub returns-else-code_known : goal.returns-else-code_known
 unfolding entry_ok
-returns c = rw (← c.code_at.ensures, sym c.code_known.ensures ∙ c.if-code_known.false)
+returns-else-code_known c = rw (c.if-code_known.false, ← c.code_at.ensures, sym c.code_known.ensures ∙ c.if-code_known.false)

@@ -4,6 +4,3 @@ use Rattle.filing.proofs.check_unlike.Goals as goal
 
 pub check_filed-requires : goal.check_filed-requires
 check_filed-requires c = all_free 3069
-
-pub returns : goal.returns
-returns c = c.check_filed.ensures

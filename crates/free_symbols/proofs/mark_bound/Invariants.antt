@@ -1,12 +1,8 @@
 -- `free_symbols::mark_bound` meets its contract. Assumes nothing.
-use Prim.Native.Nat.{◌-◌, ◌≤◌}
 use Rattle.base.specs.Search.{some}
 use Rattle.marks.specs.Put.{Put}
 use Rattle.table_binding.specs.Binding.{binds}
 use Rattle.free_symbols.proofs.mark_bound.Given as goal
 
 abbrev pub invariant-loop-k : goal.invariant-loop-k
-invariant-loop-k l = (l.k ≤ l.n) × Put l.initial.bound l.bound (λ x. some (λ e. binds l.s e x) l.k) 1
-
-abbrev pub decreases-loop-k : goal.decreases-loop-k
-decreases-loop-k l = l.n - l.k
+invariant-loop-k l = Put l.initial.bound l.bound (λ x. some (λ e. binds l.s e x) l.k) 1

@@ -3,18 +3,18 @@ use mathlib.Core.Path.{refl}
 use mathlib.Core.Logic.{inl, inr}
 use Rattle.freshness.proofs.HeldLaws.{no_marks, fresh_past, fresh_not, fresh_by}
 use Rattle.freshness.proofs.is_fresh.Goals as goal
+use Rattle.freshness.proofs.is_fresh.Goals.{then-count-gt1536-via-then-count-gt1536, then-count-gt1536-via-else-count-gt1536+then-given-gt608, then-count-gt1536-via-else-count-gt1536+else-given-gt608+then-values-count}
 
 pub returns-then-count-v : goal.returns-then-count-v
 returns-then-count-v c = fresh_past _ _ _ _ _ c.if-count-v.true
 
 pub returns-then-count-gt1536 : goal.returns-then-count-gt1536
-returns-then-count-gt1536 c = fresh_not _ _ _ _ _ (inl c.if-count-gt1536.true) _
-
-pub returns-then-given-gt608 : goal.returns-then-given-gt608
-returns-then-given-gt608 c = fresh_not _ _ _ _ _ (inr (inl c.if-given-gt608.true)) _
-
-pub returns-then-values-count : goal.returns-then-values-count
-returns-then-values-count c = fresh_not _ _ _ _ _ (inr (inr c.if-values-count.true)) _
+returns-then-count-gt1536 c =
+    elim c.then-count-gt1536.branch [
+      | then-count-gt1536-via-then-count-gt1536 w ↦ fresh_not _ _ _ _ _ (inl w.if-count-gt1536.true) _
+      | then-count-gt1536-via-else-count-gt1536+then-given-gt608 w ↦ fresh_not _ _ _ _ _ (inr (inl w.if-given-gt608.true)) _
+      | then-count-gt1536-via-else-count-gt1536+else-given-gt608+then-values-count w ↦ fresh_not _ _ _ _ _ (inr (inr w.if-values-count.true)) _
+    ]
 
 pub returns : goal.returns
 unfolding no_marks

@@ -1,10 +1,7 @@
 -- `freshness::mark_down` meets its contract. Assumes nothing.
-use Prim.Native.Nat.{◌<◌, ◌≤◌}
+use Prim.Native.Nat.{◌<◌}
 use Rattle.freshness.proofs.MarkLaws.{DownTo}
 use Rattle.freshness.proofs.mark_down.Given as goal
 
-abbrev pub invariant-loop-j : goal.invariant-loop-j
-invariant-loop-j l = (l.j ≤ l.count) × (l.v < l.count → l.v < l.j) × DownTo l.values l.count l.v l.initial.marks l.j l.marks
-
-abbrev pub decreases-loop-j : goal.decreases-loop-j
-decreases-loop-j l = l.j
+abbrev pub invariant-loop-u : goal.invariant-loop-u
+invariant-loop-u l = (l.v < l.u) × DownTo l.values.table.now l.values.count l.v l.initial.marks l.u l.marks

@@ -2,11 +2,11 @@
 use Rattle.judge_service.proofs.Stages.{is_accepted, is_not_due, is_unfinished}
 use Rattle.judge_service.proofs.check_statements.Goals as goal
 
-pub returns-in-Accepted : goal.returns-in-Accepted
-returns-in-Accepted c = is_accepted _ _ (rw c.in-Accepted.is at c.judge_statements-v.ensures)
+pub returns-in-Ok : goal.returns-in-Ok
+returns-in-Ok c = is_accepted _ _ (rw c.in-Ok.is at c.judge_statements.ensures)
 
-pub returns-in-NotDue : goal.returns-in-NotDue
-returns-in-NotDue c = is_not_due _ _ _ _ (rw c.in-NotDue.is at c.judge_statements-v.ensures) cc
+pub returns-in-Err-NotDue : goal.returns-in-Err-NotDue
+returns-in-Err-NotDue c = is_not_due _ _ _ _ (rw c.in-Err-NotDue.field-0-is at (rw c.in-Err-NotDue.is at c.judge_statements.ensures)) cc
 
-pub returns-in-Unfinished : goal.returns-in-Unfinished
-returns-in-Unfinished c = is_unfinished _ _ _ _ (rw c.in-Unfinished.is at c.judge_statements-v.ensures) cc
+pub returns-in-Err-Unfinished : goal.returns-in-Err-Unfinished
+returns-in-Err-Unfinished c = is_unfinished _ _ _ _ (rw c.in-Err-Unfinished.field-0-is at (rw c.in-Err-Unfinished.is at c.judge_statements.ensures)) cc

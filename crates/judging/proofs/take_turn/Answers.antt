@@ -7,7 +7,7 @@ use Rattle.entries.specs.Fields.{field}
 use Rattle.calculus.specs.Signature.{pairing, seal}
 use Rattle.calculus.specs.Version1.{encryption}
 use Rattle.decoded.specs.Table.{two_code}
-use Rattle.judging.proofs.ReadLaws.{Operands, turns_build, turns_say}
+use Rattle.judging.proofs.ReadLaws.{Operands, turns_build}
 use borrow.Author.Rules.{rules}
 use Rattle.judging.proofs.take_turn.Goals as goal
 
@@ -16,22 +16,16 @@ operands : (l z : List ℕ) (base i u v p q : ℕ) → u ≡ field l 2 base i 0 
     → u < 256 → v < 256 → Operands l base i z p q
 operands l z base i u v p q e g f h a b = record { first = rw e at g; second = rw f at h; first_small = rw (← e) a; second_small = rw (← f) b }
 
-pub returns-then-op-eq7 : goal.returns-then-op-eq7
+pub returns-in-7 : goal.returns-in-7
 unfolding two_code
-returns-then-op-eq7 c =
+returns-in-7 c =
     let a = c.args in
-    let o = operands a.list.now a.meanings.now a.base a.i _ _ _ _ c.operand_at.ensures c.get-p.ensures c.operand_at-2.ensures c.get-q.ensures (search rules) (search rules) in
-    turns_build _ _ _ _ _ _ _ _ _ _ _ o pairing 1 refl (sym c.code_at-op.ensures ∙ c.if-op-eq7.true) c.build.ensures
+    let o = operands a.list.now a.registers.now.meanings a.base a.i _ _ _ _ c.operand_at.ensures c.get.ensures c.operand_at-2.ensures c.get-2.ensures (search rules) (search rules) in
+    turns_build _ _ _ _ _ _ _ _ _ _ o pairing 1 refl (sym c.code_at.ensures ∙ c.in-7.is) c.build.ensures
 
-pub returns-then-op-eq8 : goal.returns-then-op-eq8
+pub returns-in-8 : goal.returns-in-8
 unfolding two_code
-returns-then-op-eq8 c =
+returns-in-8 c =
     let a = c.args in
-    let o = operands a.list.now a.meanings.now a.base a.i _ _ _ _ c.operand_at.ensures c.get-p.ensures c.operand_at-2.ensures c.get-q.ensures (search rules) (search rules) in
-    turns_build _ _ _ _ _ _ _ _ _ _ _ o (seal encryption) 2 refl (sym c.code_at-op.ensures ∙ c.if-op-eq8.true) c.build-then-op-eq8.ensures
-
-pub returns : goal.returns
-returns c =
-    let a = c.args in
-    let o = operands a.list.now a.meanings.now a.base a.i _ _ _ _ c.operand_at.ensures c.get-p.ensures c.operand_at-2.ensures c.get-q.ensures (search rules) (search rules) in
-    turns_say _ _ _ _ _ _ _ _ _ _ _ o _ _ c.code_at-op.ensures c.operand_at-x.ensures c.if-op-eq7.false c.if-op-eq8.false c.say.ensures
+    let o = operands a.list.now a.registers.now.meanings a.base a.i _ _ _ _ c.operand_at.ensures c.get.ensures c.operand_at-2.ensures c.get-2.ensures (search rules) (search rules) in
+    turns_build _ _ _ _ _ _ _ _ _ _ o (seal encryption) 2 refl (sym c.code_at.ensures ∙ c.in-8.is) c.build-in-8.ensures

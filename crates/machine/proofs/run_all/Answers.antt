@@ -1,18 +1,21 @@
 -- `machine::run_all` meets its contract. Assumes nothing.
 use mathlib.Core.Path.{refl}
 use native.Mathlib.Omega.{arith}
-use borrow.Author.Rules.{rules}
-use Rattle.machine.proofs.Progress.{run_begins, run_goes_on, run_stops, run_ends}
+use Rattle.machine.proofs.Progress.{run_begins, run_goes_on, run_stops, run_ends, same_still}
 use Rattle.machine.proofs.run_all.Goals as goal
 
 pub loop-k-init : goal.loop-k-init
-loop-k-init c = (search rules, refl, refl, run_begins _ _ _ _ _ _)
+loop-k-init c = (record { list = refl; trace = refl; values = refl; log = refl }, run_begins _ _ _ _ _ _)
 
-pub returns-in_default : goal.returns-in_default
-returns-in_default c = run_stops _ _ _ _ _ _ _ _ _ _ _ c.loop-k.invariant.3 _ c.statement_count-n.ensures c.loop-k-test.true _ c.statements_at-base.ensures _ _ _ _ c.execute-r.ensures _ _ c.in_default.is _ c.stopped.ensures
+pub returns-in-Err-clause-ran : goal.returns-in-Err-clause-ran
+returns-in-Err-clause-ran c =
+    let i = c.loop-k.invariant in
+    run_stops _ _ _ _ _ _ _ _ _ _ _ i.1 _ c.statement_count-n.ensures (omega arith) _ c.statements_at-base.ensures _ _ _ _ _ (rw (i.0.list, i.0.trace) at c.execute.ensures.does) _ c.in-Err.is _ c.ended.ensures
 
 pub loop-k-preserved : goal.loop-k-preserved
-loop-k-preserved c = (omega arith, search rules, search rules, run_goes_on _ _ _ _ _ _ _ _ _ _ _ c.loop-k.invariant.3 _ c.statement_count-n.ensures c.loop-k-test.true _ c.statements_at-base.ensures _ _ _ _ c.execute-r.ensures _ c.in-Next.is)
+loop-k-preserved c =
+    let i = c.loop-k.invariant in
+    (same_still i.0 c.execute.ensures.same, run_goes_on _ _ _ _ _ _ _ _ _ _ _ i.1 _ c.statement_count-n.ensures (omega arith) _ c.statements_at-base.ensures _ _ _ _ _ (rw (i.0.list, i.0.trace) at c.execute.ensures.does) c.in_default.is)
 
-pub returns : goal.returns
-returns c = run_ends _ _ _ _ _ _ _ _ _ _ _ c.loop-k.invariant.3 _ c.statement_count-n.ensures c.loop-k.invariant.0 c.loop-k-test.false _ c.ended.ensures
+pub returns-clause-ran : goal.returns-clause-ran
+returns-clause-ran c = run_ends _ _ _ _ _ _ _ _ _ _ _ c.loop-k.invariant.1 _ c.statement_count-n.ensures (omega arith) (omega arith) _ c.ended-2.ensures

@@ -1,8 +1,8 @@
 -- `mirvashol::give_run` meets its contract. Assumes nothing.
 use Rattle.mirvashol.proofs.give_run.Goals as goal
 
-pub returns-in_default : goal.returns-in_default
-returns-in_default c = rw c.in_default.is c.give.ensures
+pub returns-in-Ok : goal.returns-in-Ok
+returns-in-Ok c = rw c.in-Ok.is c.give.ensures
 
-pub returns : goal.returns
-returns c = rw c.in-Refuse.is c.give-2.ensures
+pub returns-in-Err : goal.returns-in-Err
+returns-in-Err c = rw c.in-Err.is c.give_refusal.ensures

@@ -6,4 +6,4 @@ pub returns-then-answer-lt8 : goal.returns-then-answer-lt8
 returns-then-answer-lt8 c = run_not_served _ _ _ _ c.if-answer-lt8.true
 
 pub returns : goal.returns
-returns c = run_served _ _ _ _ _ _ _ _ _ _ c.if-answer-lt8.false c.run-outcome.ensures c.give_run.ensures
+returns c = run_served _ _ _ _ _ _ _ _ _ c.if-answer-lt8.false c.run-ran.ensures c.give_run.ensures

@@ -6,4 +6,4 @@ pub returns-then-answer-lt8 : goal.returns-then-answer-lt8
 returns-then-answer-lt8 c = not_served _ _ _ c.if-answer-lt8.true
 
 pub returns : goal.returns
-returns c = served _ _ _ _ _ _ _ _ c.if-answer-lt8.false c.type_table-w.ensures c.give_check.ensures
+returns c = served _ _ _ _ _ _ _ c.if-answer-lt8.false c.type_table-written.ensures c.give_written.ensures

@@ -1,35 +1,24 @@
 -- `room_counts::count_of` meets its contract. Assumes nothing.
-use mathlib.Core.Path.{◌≡◌, sym}
-use mathlib.Core.List.{List}
+use mathlib.Core.Path.{refl, ◌∙◌}
 use Prim.Native.Nat.{ℕ}
 use native.Mathlib.Omega.{arith}
-use Rattle.list.specs.Layout.{statements, statements_at}
-use Rattle.room_counts.specs.Room.{one_if}
-use Rattle.room_counts.proofs.RoomLaws.{needing_none, needing_next, needing_small, one_small}
 use borrow.Author.Rules.{rules}
+use borrow.Author.Tests.{tests}
+use Rattle.std.proofs.lemmas.Iterator.{YieldsList-from_range}
+use Rattle.std.proofs.lemmas.Iterator.Consumers.{YieldsList-at, YieldsList-from_filter, count_from_yields_List}
+use Rattle.std.proofs.lemmas.List.Sums.{length-filter}
+use Rattle.std.specs.List.{range_with_len}
+use Rattle.list.specs.Statements.{op_at}
+use Rattle.room_counts.specs.Room.{passing}
 use Rattle.room_counts.proofs.count_of.Goals as goal
 
-pub loop-i-init : goal.loop-i-init
-loop-i-init c = (search rules, sym (needing_none _ _))
-
-pub overflow_add-count : goal.overflow_add-count
-overflow_add-count c =
-    let s : List ℕ = c.args.list.now in
-    let k = c.args.kind in
-    let l = c.loop-i in
-    omega (arith, l.invariant.1, needing_small s k l.i, c.one_if-count.ensures, one_small s c.statements_at-base.result l.i k)
-
-pub loop-i-preserved : goal.loop-i-preserved
-loop-i-preserved c =
-    let s : List ℕ = c.args.list.now in
-    let k = c.args.kind in
-    let l = c.loop-i in
-    let o : c.one_if-count.result ≡ one_if s (statements_at s) l.i k = rw c.statements_at-base.ensures at c.one_if-count.ensures in
-    (search rules, omega (arith, l.invariant.1, o, needing_next s k l.i))
-
 pub returns : goal.returns
-returns c =
-    let s : List ℕ = c.args.list.now in
-    let l = c.loop-i in
-    let q : l.i ≡ statements s = omega (arith, c.statement_count-n.ensures) in
-    rw q at l.invariant.1
+unfolding passing
+returns g c =
+    let s = c.args.list.now in
+    let n : ℕ = c.statement_count.result in
+    λ p h.
+    rw (← c.statement_count.ensures)
+    (count_from_yields_List c.filter.result _ c.count.ensures.ran
+    (YieldsList-from_filter _ (λ i. p (op_at s i)) (YieldsList-at c.filter.ensures.source (YieldsList-from_range 0 n n refl (omega arith))) c.filter.ensures.closure (λ x b q k. search (rules, tests, h)))
+    ∙ length-filter (λ i. p (op_at s i)) (range_with_len 0 n))

@@ -1,59 +1,52 @@
 -- `slots::push` meets its contract: the pending terms and the types from here on give the result. Assumes nothing.
-use mathlib.Core.Path.{refl, ◌∙◌}
-use native.Mathlib.Omega.{arith}
+use Rattle.std.proofs.Common.{◌≡◌, refl, Bool, true, false, [], ◌∷◌, Result, Ok, Err, is_ok, OnOk, ℕ, ◌<◌, ◌≤◌, ◌↔◌, ◌∙◌, sym, arith}
+use Rattle.type_bytes.proofs.EndLaws.{read_at}
 use Rattle.slots.proofs.PushLaws.{walk_start, walk_done, walk_past, walk_message, walk_apart, walk_met, walk_not_pair, walk_full, walk_pair, walk_not_seal, walk_seal}
 use Rattle.slots.proofs.push.Goals as goal
 
-pub loop-d-init : goal.loop-d-init
-loop-d-init c = (refl, omega (arith, c.begin-d.ensures.depth), rw c.begin-d.ensures.result_value (walk_start _ _ _ _ _))
+-- a test answers
+not_less : {b : Bool} (m n : ℕ) → false ≡ b → (b ≡ true) ↔ (m < n) → n ≤ m
+not_less m n e v = let k : ¬ (m < n) = λ l. let q : false ≡ true = e ∙ v.1 l in cc in omega (arith, k)
 
-pub shape_of-work-then-ty-at : goal.shape_of-work-then-ty-at
-shape_of-work-then-ty-at c = c.loop-d.invariant.0
+-- one more was pushed
+pushed : {A E P : Type 0} (r : Result A E) → true ≡ is_ok r → OnOk r P → P
+pushed (Ok a) e p = p
+pushed (Err a) e p = absurd cc
 
-pub returns-then-ty-at : goal.returns-then-ty-at
-returns-then-ty-at c = walk_past _ _ _ _ _ _ _ _ _ c.loop-d-test.true c.loop-d.invariant.2 _ _ c.if-ty-at.true
+pub loop-u-init : goal.loop-u-init
+loop-u-init c =
+    let q : c.push.new.self.items ≡ c.args.t ∷ [] = rw c.new-pending.ensures at c.push.ensures.items in
+    rw q (omega arith, walk_start _ _ _ _ _)
 
-pub loop-d-smaller-then-b-eq0 : goal.loop-d-smaller-then-b-eq0
-loop-d-smaller-then-b-eq0 c = omega (arith, c.past-at.ensures.on, c.if-ty-at.false)
+pub returns-in_err-b : goal.returns-in_err-b
+returns-in_err-b c = rw c.from_residual.ensures (walk_past _ _ c.in-Some.ensures.items c.loop-u.invariant.1 _ _ c.in_err-b.ensures.lookup.3)
 
-pub loop-d-preserved-then-b-eq0 : goal.loop-d-preserved-then-b-eq0
-loop-d-preserved-then-b-eq0 c = (c.loop-d.invariant.0, omega (arith, c.taken-d.ensures.depth, c.loop-d.invariant.1), rw c.taken-d.ensures.result_value (walk_message _ _ _ _ _ _ _ _ _ c.loop-d-test.true c.loop-d.invariant.2 c.if-ty-at.false _ c.if-b-eq0.true c.past-at.ensures))
+pub loop-u-preserved-then-b-eq-MESSAGE : goal.loop-u-preserved-then-b-eq-MESSAGE
+loop-u-preserved-then-b-eq-MESSAGE c = (omega (arith, c.in-Some.ensures.len, c.loop-u.invariant.0), walk_message _ _ c.in-Some.ensures.items c.loop-u.invariant.1 (read_at _ _ c.in_ok-b.field-0 c.in_ok-b.ensures.lookup) _ c.if-b-eq-MESSAGE.true c.past-at.ensures)
 
-pub returns-then-not-slot_meet : goal.returns-then-not-slot_meet
-returns-then-not-slot_meet c = walk_apart _ _ _ _ _ _ _ _ _ c.loop-d-test.true c.loop-d.invariant.2 c.if-ty-at.false c.if-b-eq0.false _ _ c.term_code-kind.ensures c.term_part-i.ensures c.if-kind-eq0.true _ _ (c.if-not-slot_meet.true) c.slot_meet.ensures
+pub returns-in_err-slot_meet-in-0 : goal.returns-in_err-slot_meet-in-0
+returns-in_err-slot_meet-in-0 c = rw c.from_residual-in_err-slot_meet-in-0.ensures (walk_apart _ _ c.in-Some.ensures.items c.loop-u.invariant.1 (read_at _ _ c.in_ok-b.field-0 c.in_ok-b.ensures.lookup) c.if-b-eq-MESSAGE.false c.term_code.ensures c.term_part-part.ensures c.in-0.is _ c.in_err-slot_meet-in-0.ensures)
 
-pub loop-d-smaller-then-kind-eq0 : goal.loop-d-smaller-then-kind-eq0
-loop-d-smaller-then-kind-eq0 c = omega (arith, c.past-at-then-kind-eq0.ensures.on, c.if-ty-at.false)
+pub loop-u-preserved-in-0-1 : goal.loop-u-preserved-in-0-1
+loop-u-preserved-in-0-1 c = (omega (arith, c.in-Some.ensures.len, c.loop-u.invariant.0), walk_met _ _ c.in-Some.ensures.items c.loop-u.invariant.1 (read_at _ _ c.in_ok-b.field-0 c.in_ok-b.ensures.lookup) c.if-b-eq-MESSAGE.false c.term_code.ensures c.term_part-part.ensures c.in-0.is _ _ c.in_ok-slot_meet-in-0.ensures c.past-at-in-0.ensures)
 
-pub loop-d-preserved-then-kind-eq0 : goal.loop-d-preserved-then-kind-eq0
-loop-d-preserved-then-kind-eq0 c = (c.slot_meet.auto.work ∙ c.loop-d.invariant.0, omega (arith, c.taken-d-then-kind-eq0.ensures.depth, c.loop-d.invariant.1), rw c.taken-d-then-kind-eq0.ensures.result_value (walk_met _ _ _ _ _ _ _ _ _ c.loop-d-test.true c.loop-d.invariant.2 c.if-ty-at.false c.if-b-eq0.false _ _ c.term_code-kind.ensures c.term_part-i.ensures c.if-kind-eq0.true _ _ _ (c.if-not-slot_meet.false) c.slot_meet.ensures c.past-at-then-kind-eq0.ensures))
+pub returns-in_err-ok-in-1 : goal.returns-in_err-ok-in-1
+returns-in_err-ok-in-1 c = rw c.from_residual-in_err-ok-in-1.ensures (walk_full _ _ c.in-Some.ensures.items c.loop-u.invariant.1 (read_at _ _ c.in_ok-b.field-0 c.in_ok-b.ensures.lookup) c.if-b-eq-MESSAGE.false c.term_code.ensures c.term_part-part.ensures c.in-1.is c.if-b-eq-PAIR.true _ _ _ _ c.push-in-1.ensures.items (not_less _ _ c.in_err-ok-in-1.ensures.variant c.try_push.ensures.variant))
 
-pub shape_of-work-then-b-ne4 : goal.shape_of-work-then-b-ne4
-shape_of-work-then-b-ne4 c = c.loop-d.invariant.0
+pub loop-u-preserved-then-b-eq-PAIR : goal.loop-u-preserved-then-b-eq-PAIR
+loop-u-preserved-then-b-eq-PAIR c =
+    let q = pushed c.try_push.result c.in_ok-ok-in-1.ensures.variant c.try_push.ensures.ok in
+    let l = pushed c.try_push.result c.in_ok-ok-in-1.ensures.variant c.try_push.ensures.len in
+    (omega (arith, l, c.try_push.ensures.variant.0 (sym c.in_ok-ok-in-1.ensures.variant)), walk_pair _ _ c.in-Some.ensures.items c.loop-u.invariant.1 (read_at _ _ c.in_ok-b.field-0 c.in_ok-b.ensures.lookup) c.if-b-eq-MESSAGE.false c.term_code.ensures c.term_part-part.ensures c.in-1.is c.if-b-eq-PAIR.true _ _ _ c.term_part.ensures c.push-in-1.ensures.items q)
 
-pub returns-then-b-ne4 : goal.returns-then-b-ne4
-returns-then-b-ne4 c = walk_not_pair _ _ _ _ _ _ _ _ _ c.loop-d-test.true c.loop-d.invariant.2 c.if-ty-at.false c.if-b-eq0.false _ _ c.term_code-kind.ensures c.term_part-i.ensures c.if-kind-eq1.true _ c.if-b-ne4.true
+pub returns-in_default-2 : goal.returns-in_default-2
+returns-in_default-2 c = walk_not_pair _ _ c.in-Some.ensures.items c.loop-u.invariant.1 (read_at _ _ c.in_ok-b.field-0 c.in_ok-b.ensures.lookup) c.if-b-eq-MESSAGE.false c.term_code.ensures c.term_part-part.ensures c.in-1.is _ c.if-b-eq-PAIR.false
 
-pub shape_of-work-then-d-ge130 : goal.shape_of-work-then-d-ge130
-shape_of-work-then-d-ge130 c = c.loop-d.invariant.0
+pub returns-in_default-2-2 : goal.returns-in_default-2-2
+returns-in_default-2-2 c = walk_not_seal _ _ c.in-Some.ensures.items c.loop-u.invariant.1 (read_at _ _ c.in_ok-b.field-0 c.in_ok-b.ensures.lookup) c.if-b-eq-MESSAGE.false c.term_code.ensures c.term_part-part.ensures (omega (arith, c.in-2.is)) (omega (arith, c.in-2.is)) _ c.if-b-eq-CIPHERTEXT.false
 
-pub returns-then-d-ge130 : goal.returns-then-d-ge130
-returns-then-d-ge130 c = walk_full _ _ _ _ _ _ _ _ _ c.loop-d-test.true c.loop-d.invariant.2 c.if-ty-at.false c.if-b-eq0.false _ _ c.term_code-kind.ensures c.term_part-i.ensures c.if-kind-eq1.true c.if-b-ne4.false _ _ c.if-d-ge130.true
-
-pub loop-d-preserved-then-kind-eq1 : goal.loop-d-preserved-then-kind-eq1
-loop-d-preserved-then-kind-eq1 c = (c.loop-d.invariant.0, omega (arith, c.parted-d.ensures.depth, c.if-d-ge130.false), rw c.parted-d.ensures.result_value (walk_pair _ _ _ _ _ _ _ _ _ c.loop-d-test.true c.loop-d.invariant.2 c.if-ty-at.false c.if-b-eq0.false _ _ c.term_code-kind.ensures c.term_part-i.ensures c.if-kind-eq1.true c.if-b-ne4.false _ c.term_part.ensures))
-
-pub shape_of-work-then-b-ne5 : goal.shape_of-work-then-b-ne5
-shape_of-work-then-b-ne5 c = c.loop-d.invariant.0
-
-pub returns-then-b-ne5 : goal.returns-then-b-ne5
-returns-then-b-ne5 c = walk_not_seal _ _ _ _ _ _ _ _ _ c.loop-d-test.true c.loop-d.invariant.2 c.if-ty-at.false c.if-b-eq0.false _ _ c.term_code-kind.ensures c.term_part-i.ensures c.if-kind-eq0.false c.if-kind-eq1.false _ c.if-b-ne5.true
-
-pub loop-d-preserved : goal.loop-d-preserved
-loop-d-preserved c = (c.loop-d.invariant.0, omega (arith, c.opened-d.ensures.depth, c.loop-d.invariant.1), rw c.opened-d.ensures.result_value (walk_seal _ _ _ _ _ _ _ _ _ c.loop-d-test.true c.loop-d.invariant.2 c.if-ty-at.false c.if-b-eq0.false _ _ c.term_code-kind.ensures c.term_part-i.ensures c.if-kind-eq0.false c.if-kind-eq1.false c.if-b-ne5.false))
-
-pub shape_of-work : goal.shape_of-work
-shape_of-work c = c.loop-d.invariant.0
+pub loop-u-preserved : goal.loop-u-preserved
+loop-u-preserved c = (omega (arith, c.push-in-2.ensures.len, c.in-Some.ensures.len, c.loop-u.invariant.0), walk_seal _ _ c.in-Some.ensures.items c.loop-u.invariant.1 (read_at _ _ c.in_ok-b.field-0 c.in_ok-b.ensures.lookup) c.if-b-eq-MESSAGE.false c.term_code.ensures c.term_part-part.ensures (omega (arith, c.in-2.is)) (omega (arith, c.in-2.is)) _ c.if-b-eq-CIPHERTEXT.true c.push-in-2.ensures.items)
 
 pub returns : goal.returns
-returns c = walk_done _ _ _ _ _ _ _ _ _ (omega (arith, c.loop-d-test.false)) c.loop-d.invariant.2
+returns c = walk_done _ _ _ _ _ _ _ _ (not_less 0 _ refl c.in_default.ensures.variant) c.loop-u.invariant.1

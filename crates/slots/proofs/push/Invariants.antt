@@ -1,13 +1,10 @@
 -- `slots::push` meets its contract: the pending terms and the types from here on give the result. Assumes nothing.
-use mathlib.Core.Path.{◌≡◌}
-use Prim.Native.Nat.{◌-◌, ◌≤◌}
-use lib.ListN.{length}
-use Rattle.slots.specs.Descent.{pending_of}
+use Rattle.std.proofs.Common.{◌-◌, ◌≤◌, length, reverse}
 use Rattle.slots.proofs.PushLaws.{Walked}
 use Rattle.slots.proofs.push.Given as goal
 
-abbrev pub invariant-loop-d : goal.invariant-loop-d
-invariant-loop-d l = (length l.work ≡ length l.initial.work) × (l.d.depth ≤ 130) × Walked l.initial.work l.table l.t l.ty l.p l.work l.at (pending_of l.d)
+abbrev pub invariant-loop-u : goal.invariant-loop-u
+invariant-loop-u l = (length l.pending.items ≤ 130) × Walked l.initial.work l.table l.t l.ty l.p l.work l.at (reverse l.pending.items)
 
-abbrev pub decreases-loop-d : goal.decreases-loop-d
-decreases-loop-d l = length l.ty - l.at
+abbrev pub decreases-loop-u : goal.decreases-loop-u
+decreases-loop-u l = length l.ty - l.at

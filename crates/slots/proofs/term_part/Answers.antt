@@ -5,5 +5,5 @@ use Rattle.slots.proofs.term_part.Goals as goal
 pub returns-then-t-term_count : goal.returns-then-t-term_count
 returns-then-t-term_count c = part_here _ _ _ c.term_count.ensures _ _ c.if-t-term_count.true c.term_field.ensures
 
-pub returns : goal.returns
-returns c = part_past _ _ _ c.term_count.ensures _ c.if-t-term_count.false
+pub returns-else-t-term_count : goal.returns-else-t-term_count
+returns-else-t-term_count c = part_past _ _ _ c.term_count.ensures _ c.if-t-term_count.false

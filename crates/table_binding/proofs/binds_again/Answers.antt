@@ -1,12 +1,13 @@
 -- `table_binding::binds_again` meets its contract. Assumes nothing.
-use borrow.Author.Rules.{rules}
+use native.Mathlib.Omega.{arith}
+use Rattle.std.proofs.lemmas.Grind.{common_steps}
 use Rattle.table_binding.specs.Binding.{again}
 use Rattle.table_binding.proofs.binds_again.Goals as goal
 
 pub returns-then-is_binder : goal.returns-then-is_binder
 unfolding again
-returns-then-is_binder c = rw (← c.is_binder.ensures, c.if-is_binder.true, ← c.step_field.ensures, ← c.requires.at c.step_field.result (search rules), ← c.get.ensures)
+returns-then-is_binder c = grind (arith, common_steps)
 
-pub returns : goal.returns
+pub returns-else-is_binder : goal.returns-else-is_binder
 unfolding again
-returns c = rw (← c.is_binder.ensures, c.if-is_binder.false)
+returns-else-is_binder c = grind (arith, common_steps)

@@ -1,26 +1,19 @@
 -- `table_layout::check_symbols` meets its contract. Assumes nothing.
-use mathlib.Core.Path.{refl, ◌∙◌}
-use native.Mathlib.Omega.{arith}
+use mathlib.Core.Path.{◌∙◌}
 use borrow.Author.Rules.{rules}
-use borrow.Author.Tests.{lt-ltb, le-ltb}
-use Rattle.base.proofs.Searched.{first_right}
-use Rattle.answers.proofs.Ladder.{rung_found, rung_clean}
-use Rattle.table_layout.specs.Faults.{symbol_rung}
+use borrow.Author.Tests.{tests}
+use Rattle.base.proofs.Ranges.{find_in_range}
+use Rattle.answers.proofs.Finds.{find_passes, find_refuses}
 use Rattle.table_layout.specs.Layout.{symbol_ok}
+use Rattle.table_layout.specs.Faults.{symbol_rung}
 use Rattle.table_layout.proofs.check_symbols.Goals as goal
 
-pub loop-i-init : goal.loop-i-init
-loop-i-init c = (search rules, refl)
-
-pub returns-then-sort_at-ge2 : goal.returns-then-sort_at-ge2
+pub returns-in-None : goal.returns-in-None
 unfolding symbol_ok
-returns-then-sort_at-ge2 c =
-    let n = c.symbol_count-n.ensures in
-    c.refuse.ensures ∙ rung_found (symbol_rung c.args.s.now) _ _ (rw n at c.loop-i.invariant.1) (rw n at c.loop-i-test.true) (le-ltb _ 2 (rw c.sort_at.ensures at c.if-sort_at-ge2.true)) (rw c.wide.ensures)
+returns-in-None c =
+    find_passes (symbol_rung c.args.s.now) (rw (← c.symbol_count.ensures) (find_in_range _ _ _ _ c.find.ensures.ran (λ x b q k. search (rules, tests)))) c.in-None.is
 
-pub loop-i-preserved : goal.loop-i-preserved
+pub returns-in-Some : goal.returns-in-Some
 unfolding symbol_ok
-loop-i-preserved c = (omega arith, c.loop-i.invariant.1 ∙ first_right _ _ _ c.loop-i-test.true (lt-ltb _ 2 (rw c.sort_at.ensures at c.if-sort_at-ge2.false)))
-
-pub returns : goal.returns
-returns c = rung_clean (symbol_rung c.args.s.now) _ (rw c.symbol_count-n.ensures at c.loop-i.invariant.1) (rw c.symbol_count-n.ensures at c.loop-i-test.false)
+returns-in-Some c =
+    c.refuse.ensures ∙ find_refuses (symbol_rung c.args.s.now) (rw (← c.symbol_count.ensures) (find_in_range _ _ _ _ c.find.ensures.ran (λ x b q k. search (rules, tests)))) c.in-Some.is (rw c.wide.ensures)

@@ -1,12 +1,8 @@
 -- `table_naming::mark_all_parts` meets its contract. Assumes nothing.
-use Prim.Native.Nat.{◌≤◌, ◌-◌}
 use Rattle.base.specs.Search.{some}
 use Rattle.marks.specs.Put.{Put}
 use Rattle.table_naming.specs.Naming.{has_part}
 use Rattle.table_naming.proofs.mark_all_parts.Given as goal
 
 abbrev pub invariant-loop-e : goal.invariant-loop-e
-invariant-loop-e l = (l.e ≤ l.n) × Put l.initial.marks l.marks (λ i. some (λ x. has_part l.s x i) l.e) 1
-
-abbrev pub decreases-loop-e : goal.decreases-loop-e
-decreases-loop-e l = l.n - l.e
+invariant-loop-e l = Put l.initial.marks l.marks (λ i. some (λ x. has_part l.s x i) l.e) 1

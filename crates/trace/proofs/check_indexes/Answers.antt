@@ -1,28 +1,18 @@
 -- `trace::check_indexes` meets its contract. Assumes nothing.
 use borrow.Author.Rules.{rules}
-use Rattle.answers.proofs.Ladder.{rung_found, rung_clean}
-use Rattle.base.proofs.Searched.{first_right}
-use borrow.Author.Tests.{lt-ltb, le-ltb}
-use Rattle.trace.specs.Faults.{index_rung}
+use mathlib.Core.Path.{◌∙◌}
+use Rattle.std.proofs.Common.{tests}
+use Rattle.base.proofs.Ranges.{find_in_range}
+use Rattle.answers.specs.Files.{file_number}
+use Rattle.answers.proofs.Finds.{find_passes, find_refuses}
 use Rattle.trace.specs.Layout.{index_ok}
-use native.Mathlib.Omega.{arith}
-use mathlib.Core.Path.{refl, ◌∙◌}
+use Rattle.trace.specs.Faults.{index_rung}
 use Rattle.trace.proofs.check_indexes.Goals as goal
 
-pub loop-i-init : goal.loop-i-init
-loop-i-init c = (search rules, refl)
-
-pub returns-then-limit-index_at : goal.returns-then-limit-index_at
+pub returns-in-None : goal.returns-in-None
 unfolding index_ok
-returns-then-limit-index_at c =
-    let a = c.args in
-    c.refuse.ensures ∙ rung_found (index_rung a.s.now a.file a.base a.limit a.count) _ _ c.loop-i.invariant.1 c.loop-i-test.true (rw (← c.index_at.ensures) (le-ltb _ _ c.if-limit-index_at.true)) (rw c.index_place.ensures)
+returns-in-None c = find_passes (index_rung c.args.s.now (file_number c.args.file) c.args.base c.args.limit c.args.count) (find_in_range _ _ _ _ c.find.ensures.ran (λ x b q k. search (rules, tests))) c.in-None.is
 
-pub loop-i-preserved : goal.loop-i-preserved
+pub returns-in-Some : goal.returns-in-Some
 unfolding index_ok
-loop-i-preserved c = (omega arith, c.loop-i.invariant.1 ∙ first_right _ _ _ c.loop-i-test.true (rw (← c.index_at.ensures) (lt-ltb _ _ c.if-limit-index_at.false)))
-
-pub returns : goal.returns
-returns c =
-    let a = c.args in
-    rung_clean (index_rung a.s.now a.file a.base a.limit a.count) _ c.loop-i.invariant.1 c.loop-i-test.false
+returns-in-Some c = c.refuse.ensures ∙ find_refuses (index_rung c.args.s.now (file_number c.args.file) c.args.base c.args.limit c.args.count) (find_in_range _ _ _ _ c.find.ensures.ran (λ x b q k. search (rules, tests))) c.in-Some.is (rw c.index_place.ensures)

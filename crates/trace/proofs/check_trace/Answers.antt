@@ -5,17 +5,17 @@ use Rattle.trace.specs.Faults.{frame_rungs, entry_rungs, equal_rung, rest_rungs}
 use mathlib.Core.Path.{◌∙◌}
 use Rattle.trace.proofs.check_trace.Goals as goal
 
-pub returns-in_default : goal.returns-in_default
-returns-in_default c =
+pub returns-in_err-check_frame : goal.returns-in_err-check_frame
+returns-in_err-check_frame c =
     let s = c.args.s.now in
-    layer_stops (frame_rungs s) (rest_rungs s) c.check_frame-a.ensures c.in_default.is
+    layer_stops (frame_rungs s) (rest_rungs s) c.check_frame.ensures c.in_err-check_frame.was c.from_residual.ensures.1
 
-pub returns-in_default-b : goal.returns-in_default-b
-returns-in_default-b c =
+pub returns-in_err-check_entries : goal.returns-in_err-check_entries
+returns-in_err-check_entries c =
     let s = c.args.s.now in
-    layer_passes (frame_rungs s) (rest_rungs s) c.check_frame-a.ensures c.in-Pass.is (layer_stops (entry_rungs s) (equal_rung s ∷ []) c.check_entries-b.ensures c.in_default-b.is)
+    layer_passes (frame_rungs s) (rest_rungs s) c.check_frame.ensures c.in_ok-check_frame.was (layer_stops (entry_rungs s) (equal_rung s ∷ []) c.check_entries.ensures c.in_err-check_entries.was c.from_residual-in_err-check_entries.ensures.1)
 
 pub returns : goal.returns
 returns c =
     let s = c.args.s.now in
-    layer_passes (frame_rungs s) (rest_rungs s) c.check_frame-a.ensures c.in-Pass.is (layer_passes (entry_rungs s) (equal_rung s ∷ []) c.check_entries-b.ensures c.in-Pass-b.is (c.check_unlike.ensures ∙ rw c.value_count.ensures))
+    layer_passes (frame_rungs s) (rest_rungs s) c.check_frame.ensures c.in_ok-check_frame.was (layer_passes (entry_rungs s) (equal_rung s ∷ []) c.check_entries.ensures c.in_ok-check_entries.was (c.check_unlike.ensures ∙ rw c.value_count.ensures))

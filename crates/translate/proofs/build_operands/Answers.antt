@@ -1,14 +1,17 @@
 -- `translate::build_operands` meets its contract. Assumes nothing.
-use Rattle.std.proofs.Common.{ℕ, ◌≡◌, ◌<◌, List, ◌⊎◌, inl, inr, sym, ◌∙◌, arith}
+use Rattle.std.proofs.Common.{ℕ, ◌≡◌, ◌<◌, List, ◌⊎◌, sym, ◌∙◌, arith, Ok}
+use borrow.Author.Rules.{rules}
 use Rattle.answers.specs.Ladder.{least}
-use Rattle.answers.specs.declared.Check.TheVariants.{Pass}
 use Rattle.entries.specs.Fields.{code}
 use Rattle.table_layout.specs.Layout.{terms as terms_of, steps, steps_at, step_field}
 use Rattle.table.specs.Faults.{table_rungs}
 use Rattle.decoded.proofs.Tabled.{step_known}
 use Rattle.rendering.specs.Judge.{Meaning}
-use Rattle.translate.specs.Stepwise.{built, after, operands_built}
-use Rattle.translate.proofs.Writing.{done_nothing, ready_as}
+use Rattle.translate.specs.declared.Progress.{Progress}
+use Rattle.translate.specs.Stepwise.{Making, built, more, after, operands_built}
+use Rattle.translate.specs.Making.{Stands, Ready}
+use Rattle.translate.proofs.BuiltLaws.{built_grows}
+use Rattle.translate.proofs.Writing.{ready_first, ready_second, stands_both, ready_as, stands_as, stands_none}
 use Rattle.translate.proofs.StepLaws.{none_built, one_built, two_built, first_there, second_there}
 use Rattle.translate.proofs.build_operands.Goals as goal
 
@@ -20,8 +23,14 @@ module _ (s : List ℕ) (k : ℕ) {op : ℕ} (g : op ≡ code s 1 (steps_at s) k
   only : (op ≡ 1) ⊎ (op ≡ 4) → (ms : List Meaning) → operands_built s k ms ≡ built s a ms
   only q ms = rw f (one_built s k op (sym g) q ms)
 
+  only_ready : (op ≡ 1) ⊎ (op ≡ 4) → (r : Making) {p : Progress} {y o : List ℕ} → Ready (operands_built s k) r p y o → Ready (built s a) r p y o
+  only_ready n r q = ready_as (operands_built s k) (built s a) r (only n r.1) q
+
+  only_done : (op ≡ 1) ⊎ (op ≡ 4) → (r : Making) {p : Progress} {y o : List ℕ} → Stands (more (built s a) r) p y o → Stands (more (operands_built s k) r) p y o
+  only_done n r d = stands_as (operands_built s k) (built s a) r (only n r.1) d
+
   -- it is there
-  module _ (e : least (table_rungs s) ≡ Pass) (h : k < steps s) where
+  module _ (e : least (table_rungs s) ≡ Ok tt) (h : k < steps s) where
     op_known : op < 6
     op_known = omega (arith, step_known s e k h, g)
 
@@ -36,42 +45,63 @@ module _ (s : List ℕ) (k : ℕ) {op : ℕ} (g : op ≡ code s 1 (steps_at s) k
       both : (ms : List Meaning) → operands_built s k ms ≡ after (built s a) (built s b) ms
       both ms = rw (f, t) (two_built s k op (sym g) op_known n₂ n₁ n₄ ms)
 
+      module _ {r : Making} {p : Progress} {y o : List ℕ} (q : Ready (operands_built s k) r p y o) where
+        both_ready : Ready (after (built s a) (built s b)) r p y o
+        both_ready = ready_as (operands_built s k) (after (built s a) (built s b)) r (both r.1) q
+
+        first_ready : Ready (built s a) r p y o
+        first_ready = ready_first (built s a) (built s b) r both_ready (omega (arith, built_grows s b (built s a r.1).1))
+
+        module _ {p₁ : Progress} {o₁ : List ℕ} (d : Stands (more (built s a) r) p₁ y o₁) where
+          second_ready : Ready (built s b) (more (built s a) r) p₁ y o₁
+          second_ready = ready_second (built s a) (built s b) r both_ready d
+
+          both_done : {p₂ : Progress} {o₂ : List ℕ} → Stands (more (built s b) (more (built s a) r)) p₂ y o₂ → Stands (more (operands_built s k) r) p₂ y o₂
+          both_done d₂ = stands_as (operands_built s k) (after (built s a) (built s b)) r (both r.1) (stands_both (built s a) (built s b) r d₂)
+
 -- ── The goals ──
 
-pub returns-then-op-eq2 : goal.returns-then-op-eq2
-returns-then-op-eq2 c ms r = rw (none_built _ _ (sym c.step_code-op.ensures ∙ c.if-op-eq2.true) ms) (done_nothing r.holds)
+pub returns-in-2 : goal.returns-in-2
+returns-in-2 c r y q = stands_none (operands_built c.args.s.now c.args.k) r (none_built _ _ (sym c.step_code.ensures ∙ c.in-2.is) r.1) q.stands
 
 pub build_term-requires : goal.build_term-requires
 build_term-requires c =
+    let g = c.step_code.ensures in
     let f = c.step_field-a.ensures in
-    (c.requires.0, first _ _ c.step_code-op.ensures f c.requires.0 c.requires.1 c.if-op-eq2.false, (_, ready_as _ (only _ _ c.step_code-op.ensures f (inl c.if-op-eq1.true) _) c.requires.2.1))
+    (c.requires.0, first _ _ g f c.requires.0 c.requires.1 (search rules), (_, _, only_ready _ _ g f c.in-1.is _ c.requires.2.2))
 
-pub returns-then-op-eq1 : goal.returns-then-op-eq1
-returns-then-op-eq1 c ms r = let o = only _ _ c.step_code-op.ensures c.step_field-a.ensures (inl c.if-op-eq1.true) ms in rw o (c.build_term.ensures ms (ready_as ms o r))
-
-pub build_term-requires-then-op-eq4 : goal.build_term-requires-then-op-eq4
-build_term-requires-then-op-eq4 c =
+pub returns-in-1 : goal.returns-in-1
+returns-in-1 c r y q =
+    let g = c.step_code.ensures in
     let f = c.step_field-a.ensures in
-    (c.requires.0, first _ _ c.step_code-op.ensures f c.requires.0 c.requires.1 c.if-op-eq2.false, (_, ready_as _ (only _ _ c.step_code-op.ensures f (inr c.if-op-eq4.true) _) c.requires.2.1))
+    only_done _ _ g f c.in-1.is r (c.build_term.ensures r y (only_ready _ _ g f c.in-1.is r q))
 
-pub returns-then-op-eq4 : goal.returns-then-op-eq4
-returns-then-op-eq4 c ms r =
-    let o = only _ _ c.step_code-op.ensures c.step_field-a.ensures (inr c.if-op-eq4.true) ms in rw o (c.build_term-then-op-eq4.ensures ms (ready_as ms o r))
-
-pub build_two-requires : goal.build_two-requires
-build_two-requires c =
-    let g = c.step_code-op.ensures in
+pub build_term-requires-in_default : goal.build_term-requires-in_default
+build_term-requires-in_default c =
+    let g = c.step_code.ensures in
     let f = c.step_field-a.ensures in
     let t = c.step_field-b.ensures in
     let e = c.requires.0 in
-    let h = c.requires.1 in (
-      e,
-      first _ _ g f e h c.if-op-eq2.false,
-      second _ _ g f e h t c.if-op-eq2.false c.if-op-eq1.false c.if-op-eq4.false,
-      (_, ready_as _ (both _ _ g f e h t c.if-op-eq2.false c.if-op-eq1.false c.if-op-eq4.false _) c.requires.2.1),
-    )
+    let h = c.requires.1 in
+    (e, first _ _ g f e h (search rules), (_, _, first_ready _ _ g f e h t (search rules) (search rules) (search rules) c.requires.2.2))
 
-pub returns : goal.returns
-returns c ms r =
-    let o = both _ _ c.step_code-op.ensures c.step_field-a.ensures c.requires.0 c.requires.1 c.step_field-b.ensures c.if-op-eq2.false c.if-op-eq1.false c.if-op-eq4.false ms in
-    rw o (c.build_two.ensures ms (ready_as ms o r))
+pub build_term-requires-in_default-2 : goal.build_term-requires-in_default-2
+build_term-requires-in_default-2 c =
+    let g = c.step_code.ensures in
+    let f = c.step_field-a.ensures in
+    let t = c.step_field-b.ensures in
+    let e = c.requires.0 in
+    let h = c.requires.1 in
+    let q = c.requires.2.2 in
+    let d = c.build_term-in_default.ensures _ _ (first_ready _ _ g f e h t (search rules) (search rules) (search rules) q) in
+    (e, second _ _ g f e h t (search rules) (search rules) (search rules), (_, _, second_ready _ _ g f e h t (search rules) (search rules) (search rules) q d))
+
+pub returns-in_default : goal.returns-in_default
+returns-in_default c r y q =
+    let g = c.step_code.ensures in
+    let f = c.step_field-a.ensures in
+    let t = c.step_field-b.ensures in
+    let e = c.requires.0 in
+    let h = c.requires.1 in
+    let d = c.build_term-in_default.ensures r y (first_ready _ _ g f e h t (search rules) (search rules) (search rules) q) in
+    both_done _ _ g f e h t (search rules) (search rules) (search rules) q d (c.build_term-in_default-2.ensures _ y (second_ready _ _ g f e h t (search rules) (search rules) (search rules) q d))

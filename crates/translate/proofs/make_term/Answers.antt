@@ -1,13 +1,7 @@
 -- `translate::make_term` meets its contract. Assumes nothing.
-use Prim.Native.Nat.{ℕ, ◌+◌}
-use mathlib.Core.List.{List, [], ◌∷◌}
-use Rattle.buffers.proofs.OverLaws.{over_fits}
-use Rattle.translate.specs.Making.{make_bytes}
-use mathlib.Core.Path.{◌∙◌}
+use Rattle.std.proofs.Common.{refl}
+use Rattle.translate.proofs.Giving.{term_given}
 use Rattle.translate.proofs.make_term.Goals as goal
 
-pub returns : goal.returns
-unfolding make_bytes
-returns c =
-    let w : List ℕ = (c.term_code.result + 6) ∷ c.register_of-p.result ∷ c.register_of-q.result ∷ 0 ∷ [] in
-    record { written = rw (c.term_code.ensures, c.register_of-q.ensures, c.register_of-p.ensures, c.term_field-b.ensures, c.term_field-a.ensures) at (c.put_four.ensures.written ∙ over_fits w c.args.out.now c.requires.2); noted = c.note.ensures }
+pub returns-clause-given : goal.returns-clause-given
+returns-clause-given c = term_given refl _ c.ranges.i.fits refl c.note.ensures

@@ -1,46 +1,53 @@
 -- `type_bytes::meet` meets its contract. Assumes nothing.
-use Rattle.type_bytes.proofs.MeetLaws.{Begun, meets_past, meets_past_2, meets_full, meets_second, meets_first, meets_apart, meets_deep_apart, meets_cipher, meets_pair_apart, meets_pair}
-use Rattle.std.proofs.Common.{◌≡◌, ℕ, ◌<◌, List, length, get_or, arith}
-use Rattle.type_bytes.specs.Meets.{how_of}
+use borrow.Author.Tests.{eqb-true, eqb-false}
+use Rattle.type_bytes.proofs.MeetLaws.{Begun, meets_past, meets_past_2, meets_full, meets_second, meets_first, meets_apart, meets_inside_apart, meets_cipher, meets_left_apart, meets_right_apart, meets_pair}
+use Rattle.std.proofs.Common.{Bor, Some, Bool, false, ◌≡◌, ◌∙◌, sym, ℕ, List, length, arith}
+use Rattle.std.specs.Prelude.{◌==◌}
+use Rattle.std.specs.Slice.{IsItemAt}
+use Rattle.type_bytes.proofs.EndLaws.{read_at}
 use Rattle.buffers.proofs.OverLaws.{rest_kept}
+use Rattle.type_bytes.specs.Meets.{how_of}
+use Rattle.type_bytes.specs.declared.How.{How}
 use Rattle.type_bytes.proofs.+meet.Goals as goal
 
--- `how` has answered: there are two codes, and room
-begun : {a b z : List ℕ} {p q h : ℕ} → p < length a → q < length b → ¬ (length z ≡ 0) → h ≡ how_of (get_or a p 0) (get_or b q 0) → Begun a p b q z h
-begun i j k e = record { in_a = i; in_b = j; room = omega arith; says = e }
+-- both codes were read, there is room, and it is known how the types meet
+begun : {a b z : List ℕ} {p q : ℕ} (m n : Bor ℕ) {h : How} {e : Bool} → IsItemAt a p (Some m) → IsItemAt b q (Some n) → e ≡ (length z == 0) → e ≡ false → h ≡ how_of m.now n.now → Begun a p b q z m.now h
+begun {a} {b} {z} {p} {q} m n k l f g says =
+    let (i, x) = read_at a p m k in
+    let (j, y) = read_at b q n l in
+    record { in_a = i; in_b = j; room = omega (arith, eqb-false (length z) 0 (sym f ∙ g)); first = x; says = rw (← x, ← y) says }
 
-pub returns-then-a-p : goal.returns-then-a-p
-returns-then-a-p t c = meets_past _ _ _ _ _ _ c.if-a-p.true
+pub returns-in_err-code : goal.returns-in_err-code
+returns-in_err-code t c = rw c.from_residual.ensures (meets_past _ _ _ _ _ _ c.in_err-code.ensures.lookup.3)
 
-pub returns-then-b-q : goal.returns-then-b-q
-returns-then-b-q t c = meets_past_2 _ _ _ _ _ _ c.if-b-q.true
+pub returns-in_err-other : goal.returns-in_err-other
+returns-in_err-other t c = rw c.from_residual-in_err-other.ensures (meets_past_2 _ _ _ _ _ _ c.in_err-other.ensures.lookup.3)
 
-pub returns-then-out-eq0 : goal.returns-then-out-eq0
-returns-then-out-eq0 t c = meets_full _ _ _ _ _ _ c.if-out-eq0.true
+pub returns-then-is_empty : goal.returns-then-is_empty
+returns-then-is_empty t c = meets_full _ _ _ _ _ _ (eqb-true (length c.args.out.now) 0 (sym c.is_empty.ensures ∙ c.if-is_empty.true))
 
-pub returns-then-h-eq0 : goal.returns-then-h-eq0
-returns-then-h-eq0 t c = meets_second (begun c.if-a-p.false c.if-b-q.false c.if-out-eq0.false c.how-h.ensures) _ _ c.if-h-eq0.true c.copy_type.ensures
+pub returns-in-Second : goal.returns-in-Second
+returns-in-Second t c = meets_second (begun c.in_ok-code.field-0 c.in_ok-other.field-0 c.in_ok-code.ensures.lookup c.in_ok-other.ensures.lookup c.is_empty.ensures c.if-is_empty.false c.how_codes_meet.ensures) _ _ c.in-Second.is c.copy_type.ensures
 
-pub returns-then-h-eq1 : goal.returns-then-h-eq1
-returns-then-h-eq1 t c = meets_first (begun c.if-a-p.false c.if-b-q.false c.if-out-eq0.false c.how-h.ensures) _ _ c.if-h-eq1.true c.copy_type-then-h-eq1.ensures
+pub returns-in-First : goal.returns-in-First
+returns-in-First t c = meets_first (begun c.in_ok-code.field-0 c.in_ok-other.field-0 c.in_ok-code.ensures.lookup c.in_ok-other.ensures.lookup c.is_empty.ensures c.if-is_empty.false c.how_codes_meet.ensures) _ _ c.in-First.is c.copy_type-in-First.ensures
 
-pub returns-then-h-lt4 : goal.returns-then-h-lt4
-returns-then-h-lt4 t c = meets_apart (begun c.if-a-p.false c.if-b-q.false c.if-out-eq0.false c.how-h.ensures) _ c.if-h-lt4.true c.if-h-eq0.false c.if-h-eq1.false
+pub returns-in-Apart : goal.returns-in-Apart
+returns-in-Apart t c = meets_apart (begun c.in_ok-code.field-0 c.in_ok-other.field-0 c.in_ok-code.ensures.lookup c.in_ok-other.ensures.lookup c.is_empty.ensures c.if-is_empty.false c.how_codes_meet.ensures) _ c.in-Apart.is
 
-pub returns-in_default : goal.returns-in_default
-returns-in_default t c = meets_deep_apart (begun c.if-a-p.false c.if-b-q.false c.if-out-eq0.false c.how-h.ensures)
-    c.if-h-lt4.false _ _ (rw c.in_default.is at c.meet.ensures)
+pub returns-in_err-m-in-Pairs : goal.returns-in_err-m-in-Pairs
+returns-in_err-m-in-Pairs t c = rw c.from_residual-in_err-m-in-Pairs.ensures (meets_left_apart (begun c.in_ok-code.field-0 c.in_ok-other.field-0 c.in_ok-code.ensures.lookup c.in_ok-other.ensures.lookup c.is_empty.ensures c.if-is_empty.false c.how_codes_meet.ensures) _ c.in-Pairs.is _ c.in_err-m-in-Pairs.ensures)
 
-pub returns-then-h-eq5 : goal.returns-then-h-eq5
-returns-then-h-eq5 t c = meets_cipher (begun c.if-a-p.false c.if-b-q.false c.if-out-eq0.false c.how-h.ensures)
-    c.if-h-lt4.false _ _ c.in-Met.ensures c.if-h-eq5.true
+pub returns-in_err-meet-in-Pairs : goal.returns-in_err-meet-in-Pairs
+returns-in_err-meet-in-Pairs t c = rw c.from_residual-in_err-meet-in-Pairs.ensures (meets_right_apart (begun c.in_ok-code.field-0 c.in_ok-other.field-0 c.in_ok-code.ensures.lookup c.in_ok-other.ensures.lookup c.is_empty.ensures c.if-is_empty.false c.how_codes_meet.ensures) _ c.in-Pairs.is _ c.in_ok-m-in-Pairs.ensures _ _ c.past-i.ensures c.past-j.ensures
+    (rest_kept c.args.out.now _ c.meet.new.out c.meet.auto.out) _ _ c.in_err-meet-in-Pairs.ensures)
 
-pub returns-in_default-meet : goal.returns-in_default-meet
-returns-in_default-meet t c = meets_pair_apart (begun c.if-a-p.false c.if-b-q.false c.if-out-eq0.false c.how-h.ensures)
-    c.if-h-lt4.false _ _ c.in-Met.ensures _ _ c.if-h-eq5.false c.past-i.ensures c.past-j.ensures
-    (rest_kept c.args.out.now c.how-h.result c.meet.new.out c.meet.auto.out) _ _ (rw c.in_default-meet.is at c.meet-2.ensures)
+pub returns-in_err-meet-in-Ciphertexts : goal.returns-in_err-meet-in-Ciphertexts
+returns-in_err-meet-in-Ciphertexts t c = rw c.from_residual-in_err-meet-in-Ciphertexts.ensures (meets_inside_apart (begun c.in_ok-code.field-0 c.in_ok-other.field-0 c.in_ok-code.ensures.lookup c.in_ok-other.ensures.lookup c.is_empty.ensures c.if-is_empty.false c.how_codes_meet.ensures) _ c.in-Ciphertexts.is _ c.in_err-meet-in-Ciphertexts.ensures)
 
-pub returns : goal.returns
-returns t c = meets_pair (begun c.if-a-p.false c.if-b-q.false c.if-out-eq0.false c.how-h.ensures)
-    c.if-h-lt4.false _ _ c.in-Met.ensures _ _ c.if-h-eq5.false c.past-i.ensures c.past-j.ensures
-    (rest_kept c.args.out.now c.how-h.result c.meet.new.out c.meet.auto.out) _ _ c.in-Met-meet.ensures
+pub returns-in_ok-meet-in-Pairs : goal.returns-in_ok-meet-in-Pairs
+returns-in_ok-meet-in-Pairs t c = meets_pair (begun c.in_ok-code.field-0 c.in_ok-other.field-0 c.in_ok-code.ensures.lookup c.in_ok-other.ensures.lookup c.is_empty.ensures c.if-is_empty.false c.how_codes_meet.ensures) _ c.in-Pairs.is _ c.in_ok-m-in-Pairs.ensures _ _ c.past-i.ensures c.past-j.ensures
+    (rest_kept c.args.out.now _ c.meet.new.out c.meet.auto.out) _ _ c.in_ok-meet-in-Pairs.ensures
+
+pub returns-in_ok-meet-in-Ciphertexts : goal.returns-in_ok-meet-in-Ciphertexts
+returns-in_ok-meet-in-Ciphertexts t c = meets_cipher (begun c.in_ok-code.field-0 c.in_ok-other.field-0 c.in_ok-code.ensures.lookup c.in_ok-other.ensures.lookup c.is_empty.ensures c.if-is_empty.false c.how_codes_meet.ensures) _ c.in-Ciphertexts.is _ c.in_ok-meet-in-Ciphertexts.ensures

@@ -1,15 +1,9 @@
 -- `typing::at_step` meets its contract. Assumes nothing.
-use mathlib.Core.Path.{refl}
-use Rattle.marks.specs.Put.{blank}
 use Rattle.typing.proofs.StepLaws.{step_stop, step_on}
 use Rattle.typing.proofs.at_step.Goals as goal
 
-pub mark_step-requires : goal.mark_step-requires
-unfolding blank
-mark_step-requires c = refl
-
-pub returns-then-put_wants : goal.returns-then-put_wants
-returns-then-put_wants c = step_on _ _ _ _ _ _ _ (rw c.if-put_wants.true at c.put_wants.ensures) c.mark_step.ensures c.need_keys.ensures
+pub returns-in_err-put_wants : goal.returns-in_err-put_wants
+returns-in_err-put_wants c = rw c.from_residual.ensures (step_stop _ _ _ _ c.in_err-put_wants.ensures)
 
 pub returns : goal.returns
-returns c = step_stop _ _ _ _ (rw c.if-put_wants.false at c.put_wants.ensures)
+returns c = step_on _ _ _ _ _ _ _ c.in_ok-put_wants.ensures c.mark_step-marks.ensures c.need_keys.ensures

@@ -1,10 +1,6 @@
 -- `typing::mark_down` meets its contract. Assumes nothing.
-use Prim.Native.Nat.{◌≤◌}
 use Rattle.typing.proofs.MarkLaws.{DownTo}
 use Rattle.typing.proofs.mark_down.Given as goal
 
-abbrev pub invariant-loop-v : goal.invariant-loop-v
-invariant-loop-v l = (l.v ≤ 255) × DownTo l.table l.initial.marks l.v l.marks
-
-abbrev pub decreases-loop-v : goal.decreases-loop-v
-decreases-loop-v l = l.v
+abbrev pub invariant-loop-u : goal.invariant-loop-u
+invariant-loop-u l = DownTo l.table l.initial.marks l.u l.marks

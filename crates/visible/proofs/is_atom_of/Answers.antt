@@ -1,12 +1,17 @@
 -- `visible::is_atom_of` meets its contract. Assumes nothing.
-use Rattle.visible.proofs.SeenLaws.{atom_name, atom_kind, not_atom}
+use native.Mathlib.Omega.{arith}
+use borrow.Author.Tests.{tests}
+use Rattle.visible.specs.Seen.{atom_of}
 use Rattle.visible.proofs.is_atom_of.Goals as goal
 
 pub returns-then-b-eq1 : goal.returns-then-b-eq1
-returns-then-b-eq1 c = atom_name _ _ _ c.if-tag-eq0.true c.if-b-eq1.true
+unfolding atom_of
+returns-then-b-eq1 c = grind (arith, tests)
 
-pub returns-then-tag-eq0 : goal.returns-then-tag-eq0
-returns-then-tag-eq0 c = atom_kind _ _ _ c.if-tag-eq0.true c.if-b-eq1.false
+pub returns-else-b-eq1 : goal.returns-else-b-eq1
+unfolding atom_of
+returns-else-b-eq1 c = grind (arith, tests)
 
-pub returns : goal.returns
-returns c = not_atom _ _ _ c.if-tag-eq0.false
+pub returns-else-tag-eq0 : goal.returns-else-tag-eq0
+unfolding atom_of
+returns-else-tag-eq0 c = grind (arith, tests)

@@ -1,6 +1,0 @@
--- `list::check_frame` meets its contract. Assumes nothing.
-use mathlib.Core.Path.{◌∙◌}
-use Rattle.list.proofs.check_frame.Goals as goal
-
-pub returns : goal.returns
-returns c = c.check_frame.ensures ∙ rw (c.counts_ok.ensures, c.length_ok.ensures)

@@ -1,0 +1,2 @@
+-- Laws of naming.
+mod Idle
