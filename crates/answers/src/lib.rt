@@ -14,6 +14,7 @@ pub enum File {
     Buffer,
 }
 
+// Three numbers and no enum: document 01 has a refusal as a number with its file and place, and C is given it so (docs/DECISIONS.md 100).
 #[derive(Clone, Copy, PartialEq, Eq)]
 pub struct Refusal {
     pub number: u8,
@@ -24,6 +25,7 @@ pub struct Refusal {
 // What a layer of tests answers: go on, or the refusal.
 pub type Check = Result<(), Refusal>;
 
+// Each call writes its number out, since it is document 01's, by which the rungs of specs/ and the theorems name the test too.
 pub fn refuse(number: u8, file: File, place: usize) -> Check
     ensures { result ≡ Err (refusal number (file_number file) place) }
 {

@@ -19,6 +19,7 @@ pub fn copy(out: &mut [u8], bytes: &[u8]) -> bool
 }
 
 // Copies bytes to a place, and answers the place after them. Bytes that do not fit there are not copied, and the place is answered.
+// The part that starts mid-buffer is document 01's form; buffer and place stay two, since callers promise things of the whole buffer.
 #[tactic(auto, using(crate::proofs::OverLaws::part_appended))]
 pub fn append(out: &mut [u8], at: usize, bytes: &[u8]) -> usize
     ensures appended { at + length bytes.now ≤ length out.old → Appended bytes.now at out.old out.new result }

@@ -7,27 +7,26 @@ ghost use Rattle.codes.specs.Rows.{cell, fields, field_bytes, width, known, atom
 ghost use Rattle.codes.specs.Types.{type_parts, type_known};
 ghost use Rattle.codes.specs.Marks.{mark, header};
 ghost use Rattle.codes.specs.Kinds.{kind_number};
-ghost use Rattle.answers.specs.Files.{file_number};
 
-use answers::File;
-
-// The mark of each file, and the bytes of its header.
+// The mark of each file, and the bytes of its header. These and the tables below are flat arrays of bytes: document 01 asks for constant
+// tables, and they stand as specs/ has them. `cell_at` promises the byte of any code and column, past a row's end too, which an array of
+// rows does not give.
 const MARKS: [u8; 9] = *b"SPTSPLSPX";
 
 const HEADERS: [u8; 3] = [8, 8, 10];
 
 // Byte j of a file's mark.
 #[tactic(auto, unfolding(crate::specs::Marks::mark))]
-pub fn mark_byte(file: File, j: u8) -> u8
-    ensures { result ≡ mark (file_number file) j }
+pub fn mark_byte(file: u8, j: u8) -> u8
+    ensures { result ≡ mark file j }
 {
     base::byte_at(&MARKS, file as usize * 3 + j as usize)
 }
 
 // The bytes of a file's header.
 #[tactic(auto, unfolding(crate::specs::Marks::header))]
-pub fn header_bytes(file: File) -> usize
-    ensures { result ≡ header (file_number file) }
+pub fn header_bytes(file: u8) -> usize
+    ensures { result ≡ header file }
 {
     base::byte_at(&HEADERS, file as usize) as usize
 }
@@ -41,8 +40,18 @@ pub enum Kind {
     Value,
 }
 
+impl Kind {
+    // Its number: the place of its rows, and of its columns in the tables below.
+    pub fn number(self) -> u8
+        ensures { result ≡ kind_number self }
+    {
+        self as u8
+    }
+}
+
 // The roles of a field: not used; a lower entry; a symbol; an atom's kind; any number; a term; a name that is bound; a variable
-// that is bound; a register. Each is an index into the limits of an entry.
+// that is bound; a register. Each is an index into the limits of an entry. They are bytes and no enum, as cells of `ROWS`, the table that
+// document 01 asks for; beside them it has versions, and 0 or 1.
 pub const NONE: u8 = 0;
 
 pub const PART: u8 = 1;
@@ -96,19 +105,20 @@ const FIELD_BYTES: [u8; 4] = [1, 1, 1, 2];
 
 const ENTRY_BYTES: [u8; 4] = [3, 5, 4, 5];
 
-// A column of the row of a code.
+// A column of the row of a code. Code and cell are bytes: a file may hold any code, and a cell is a version, a role, or 0 or 1.
 #[tactic(auto, unfolding(crate::specs::Rows::cell))]
-pub fn cell_at(kind: Kind, op: u8, column: u16) -> u8
-    ensures { result ≡ cell (kind_number kind) op column }
+pub fn cell_at(kind: u8, op: u8, column: u16) -> u8
+    ensures { result ≡ cell kind op column }
 {
     let row = base::byte_at(&FIRST, kind as usize) as usize + op as usize;
     base::byte_at(&ROWS, row * 5 + column as usize)
 }
 
-// The number of fields of an entry.
+// The number of fields of an entry. This, `field_bytes`, `entry_bytes` and `header_bytes` each name a table: one function for them would
+// take it from each caller, and is `base::byte_at`.
 #[tactic(auto, unfolding(crate::specs::Rows::fields))]
-pub fn field_count(kind: Kind) -> u8
-    ensures { result ≡ fields (kind_number kind) }
+pub fn field_count(kind: u8) -> u8
+    ensures { result ≡ fields kind }
 {
     base::byte_at(&FIELDS, kind as usize)
 }
@@ -137,7 +147,7 @@ pub fn code_known(kind: Kind, version: usize, op: u8) -> bool
 {
     match (kind, op) {
         (Kind::Term | Kind::Value, 0..=2) | (Kind::Step, 0..=5) | (Kind::Statement, 0..=8) => {
-            cell_at(kind, op, 0) as usize <= version
+            cell_at(kind.number(), op, 0) as usize <= version
         }
         (_, 0..=255) => false,
     }
@@ -178,7 +188,7 @@ const TYPES: [u8; 12] = [
     1, 1, // ciphertext
 ];
 
-// How many types follow a type code.
+// How many types follow a type code, which is any byte of a file; none follow an unknown one.
 #[tactic(auto, unfolding(crate::specs::Types::type_parts))]
 pub fn type_parts(code: u8) -> usize
     ensures { result ≡ type_parts code }
@@ -186,7 +196,7 @@ pub fn type_parts(code: u8) -> usize
     base::byte_at(&TYPES, code as usize * 2 + 1) as usize
 }
 
-// Whether a version knows the type code.
+// Whether a version knows the type code: a match, as at `code_known`.
 #[tactic(auto, unfolding(crate::specs::Types::type_known))]
 pub fn type_known(version: usize, code: u8) -> bool
     ensures { result ≡ type_known version code }

@@ -16,9 +16,9 @@ fn put_header(out: &mut [u8], symbols: u8, statements: usize)
     ensures { out.new ≡ over (header_bytes symbols statements) out.old }
 {
     let header = [
-        codes::mark_byte(File::List, 0),
-        codes::mark_byte(File::List, 1),
-        codes::mark_byte(File::List, 2),
+        codes::mark_byte(File::List as u8, 0),
+        codes::mark_byte(File::List as u8, 1),
+        codes::mark_byte(File::List as u8, 2),
         0,
         1,
         symbols,

@@ -50,6 +50,7 @@ pub struct Run<'a> {
 }
 
 // A statement is a method. It ends the run by an `Err`.
+// The methods that only pass fields on name them once, where each statement would else write them all.
 impl Run<'_> {
     // The next supplied value, if supply is left.
     fn next_supplied(&self) -> Result<u16, Ending>
@@ -163,6 +164,7 @@ impl Run<'_> {
     }
 
     // The left (0) or right (1) part of v.
+    // The number here and the tag in `build` are what `value_table` takes: an enum would be made in `execution` and undone here.
     pub fn half(&mut self, j: u8, v: u16) -> Result<(), Ending>
         ensures same { Same self.old self.new }
         ensures kept { (self.new.values.now ≡ self.old.values.now) × (self.new.log.now ≡ self.old.log.now) }

@@ -1,7 +1,7 @@
 // Entries of a code and its fields, of any kind, read from a base offset on. That a file is long enough is its reader's test.
 // Terms and values are checked here, since they differ only in their rows: parts are lower, and no entry equals an earlier one.
-// Bytes, kind and base stay three parameters: the specs name them so, and a struct of them would lengthen each clause by its fields and
-// each call from outside by its making.
+// Bytes, kind and base stay three parameters, and limits beside them: the specs name them so, and a struct of them would lengthen each
+// clause by its fields and each call from outside by its making.
 #![tactic(auto)]
 
 ghost use Rattle.std.specs.Prelude.{◌≡◌, [], ◌∷◌};
@@ -14,7 +14,7 @@ ghost use Rattle.entries.specs.Faults.{node_ok, node_rung, alone, twin_rung};
 use answers::{Check, File};
 use codes::Kind;
 
-// A number of one byte or of two.
+// A number of one byte or of two. The size is a cell of `codes`' table, a byte: a `match` on it would want a third arm.
 fn number_at(s: &[u8], at: usize, size: u8) -> usize
     ensures { result ≡ number s.now at size }
 {
@@ -31,7 +31,7 @@ pub fn place_of(kind: Kind, base: u32, i: u16) -> usize
     base as usize + i as usize * codes::entry_bytes(kind)
 }
 
-// Its code.
+// Its code. Like a role, it is the byte as it is read, known or not.
 pub fn code_at(s: &[u8], kind: Kind, base: u32, i: u16) -> u8
     ensures { result ≡ code s.now (kind_number kind) base i }
 {
@@ -51,14 +51,14 @@ pub fn field_at(s: &[u8], kind: Kind, base: u32, i: u16, j: u8) -> usize
 pub fn role_at(s: &[u8], kind: Kind, base: u32, i: u16, j: u8) -> u8
     ensures { result ≡ role s.now (kind_number kind) base i j }
 {
-    codes::cell_at(kind, code_at(s, kind, base, i), j as u16 + 1)
+    codes::cell_at(kind.number(), code_at(s, kind, base, i), j as u16 + 1)
 }
 
 // All fields lie below the limits of their roles.
 fn fields_ok(s: &[u8], kind: Kind, base: u32, i: u16, limits: &[usize]) -> bool
     ensures { result ≡ fields_ok s.now (kind_number kind) base i limits.now }
 {
-    (0..codes::field_count(kind)).all(|j| field_ok(s, kind, base, i, limits, j))
+    (0..codes::field_count(kind.number())).all(|j| field_ok(s, kind, base, i, limits, j))
 }
 
 // Field j lies below the limit of its role.
@@ -103,7 +103,8 @@ pub fn check_nodes(
     }
 }
 
-// Two entries of two fields are equal.
+// Two entries of two fields are equal. They are compared by field and not as two parts of `s`: past its end a field is 0, and `check_twins`
+// promises its answer there too.
 fn same_entry(s: &[u8], kind: Kind, base: u32, i: u16, j: u16) -> bool
     ensures { result ≡ same_entry s.now (kind_number kind) base i j }
 {

@@ -12,7 +12,8 @@ ghost use Rattle.filing.specs.Filing.{key_of, way_of, AllFree};
 use answers::{Check, File};
 use codes::Kind;
 
-// An entry of two fields as one number of 40 bits: its code, then its fields.
+// An entry of two fields as one number of 40 bits: its code, then its fields. They are numbers already, which `from_be_bytes` would want
+// taken apart first.
 fn key_at(s: &[u8], kind: Kind, base: u32, i: u16) -> u64
     ensures { result ≡ key_of s.now (kind_number kind) base i }
 {
@@ -22,10 +23,11 @@ fn key_at(s: &[u8], kind: Kind, base: u32, i: u16) -> u64
     op as u64 * 4294967296 + left as u64 * 65536 + right as u64
 }
 
-// The slots of up to 1,024 filed entries: two below each entry, then the roots.
+// The slots of up to 1,024 filed entries: two below each entry, then the roots. There is no heap, so no map, and no `Box` for the tree.
 const SLOTS: usize = 3069;
 
 // Where the way of a key ends: at a slot that is free, or at an entry of that key. A way that is too long or leaves the slots is lost.
+// It derives no more: nothing copies, compares or prints it.
 #[derive(Drop)]
 pub enum Way {
     Free(usize),
@@ -34,7 +36,7 @@ pub enum Way {
 }
 
 // The way of a key from its root. A slot holds 0, or an entry's index and 1; below an entry the key's next bit chooses the slot.
-// A key has 40 bits, so that 41 entries are enough.
+// A key has 40 bits, so that 41 entries are enough. Slots are fixed memory, which `Option<u16>` would double.
 fn way_of(s: &[u8], kind: Kind, base: u32, slots: &[u16], own: u64) -> Way
     ensures { result ≡ way_of s.now (kind_number kind) base slots.now own }
 {

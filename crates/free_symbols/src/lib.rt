@@ -11,6 +11,9 @@ ghost use Rattle.decoded.specs.Table.{free_count};
 ghost use Rattle.free_symbols.specs.Free.{is_bound, FreeListed};
 
 // Marks the symbol that field j of step k binds, if it binds one.
+// The marking functions are like those of `table_binding` and `table_naming` and stay apart: the former note steps and require k < 255,
+// where nothing is asked here; with the latter they share no reader. A mark is 0 or 1 and still a byte, and the array has a place for every
+// byte: `marks` takes such arrays, for steps and registers too, and a struct around one would be opened at each call.
 #[tactic(auto, using(marks::proofs::PutLaws::put_as))]
 fn mark_field(s: &[u8], k: u8, j: u8, bound: &mut [u8; 256])
     ensures { Put bound.old bound.new (binds_at s.now k j) 1 }

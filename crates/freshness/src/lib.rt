@@ -11,10 +11,12 @@ ghost use Rattle.freshness.specs.Fresh.{FreshBy};
 use run_parts::Registers;
 
 // One mark a value. A run has at most 1,536 values: 1,024 of the trace, and one for each of 512 statements.
+// A name and no struct: nothing stands beside the array, and that a place lies inside is said of the values.
 type Marks = [bool; 1536];
 
 // The values of a run: no more than there are marks, and the table has room for them. These bounds are tested once, before the passes,
 // which then read without a test, where `value_table` tests each read: the passes are the longest part of a fresh name.
+// That an index lies below the count stays a clause of each: a type of such indexes would be made anew at each read.
 #[derive(Clone, Copy)]
 struct Values<'a> {
     table: &'a [u8],
@@ -44,6 +46,7 @@ impl Values<'_> {
 }
 
 // Marks value w, if it is one of the first so many.
+// The marking functions are like those of `typing`, over terms, and stay apart: those read through `slots`, which tests each place.
 fn mark(marks: &mut Marks, below: u16, w: u16)
     requires { below ≤ 1536 }
     ensures { OneMarked below w marks.old marks.new }

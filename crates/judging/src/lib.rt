@@ -21,6 +21,7 @@ pub struct State {
 }
 
 // What the registers mean that are given so far.
+// Any byte is looked up in the meanings: they are fixed memory with a place for every byte; an `ArrayVec` would want a bound there.
 #[derive(Drop)]
 pub struct Registers {
     pub meanings: [u8; 256],
@@ -28,6 +29,7 @@ pub struct Registers {
 }
 
 // A statement as it is judged: its op, what its registers mean, and its symbol.
+// The op is a byte of the list, known or not, so that it stays a number, here and in `bind` and `after`.
 #[derive(Clone, Copy)]
 struct Statement {
     op: u8,
@@ -70,13 +72,14 @@ impl Registers {
     fn bind(&mut self, op: u8, x: u8)
         ensures { BindsNext op x self.old self.new }
     {
-        if codes::cell_at(Kind::Statement, op, 4) != 0 {
+        if codes::cell_at(Kind::Statement as u8, op, 4) != 0 {
             self.give(x);
         }
     }
 }
 
 // Term i is of that kind, and its parts mean p and q.
+// A kind is a term's code, a byte of the table, here and below. Each part is compared as it is read: no entry is there for a derived `==`.
 #[tactic(auto, unfolding(crate::specs::Due::fits_at))]
 fn fits(s: &[u8], i: u8, kind: u8, p: u8, q: u8) -> bool
     ensures { result ≡ fits_at s.now kind p q i }
@@ -94,6 +97,8 @@ fn find(s: &[u8], kind: u8, p: u8, q: u8) -> Option<u8>
 }
 
 // The op of the statement that a step makes due.
+// By the step's code, a byte of the table; `half` comes beside it and no `State`, whose step is an index. An unknown step has op 9, which
+// `operands_due` turns down as it does every such op: an `Option` would be a second test of the same.
 #[tactic(auto, unfolding(crate::specs::Due::due_op))]
 fn due_op(step: u8, half: bool) -> u8
     ensures { result ≡ due_op step half }
@@ -116,6 +121,7 @@ fn operands_due(s: &[u8], k: u8, statement: Statement) -> bool
     let first = meant(s, table_layout::step_field(s, k, 0)) == p;
     let second = meant(s, table_layout::step_field(s, k, 1)) == q;
     let symbol = table_layout::step_field(s, k, 2) == x;
+    // By the op, a byte of the list: document 01 asks for a match here, with a range for unknown codes.
     match op {
         0 => first && second,
         1 => first && symbol,
@@ -137,6 +143,7 @@ fn is_due(s: &[u8], k: u8, half: bool, statement: Statement) -> bool
 }
 
 // What is due after a statement of step k.
+// One test gives both fields, where a `match` would write the `State` twice; that k has room is asked here alone.
 fn after(op: u8, k: u8) -> State
     requires { k < 255 }
     ensures { Next op k result }
@@ -211,6 +218,7 @@ fn at_end(s: &[u8], state: State) -> Result<(), Unfaithful>
 }
 
 // The verdict on a list's statements.
+// The table and the list stay two arguments, as C lends them to the services.
 pub fn judge_statements(table: &[u8], list: &[u8]) -> Result<(), Unfaithful>
     ensures { StatementsJudged table.now list.now result }
 {

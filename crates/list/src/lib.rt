@@ -1,5 +1,6 @@
 // The statement list: numbers 1 to 5, and the part of a list that holds a symbol's type.
 // Nothing is asked of the caller: a list that is too short reads as zeros, and number 4 turns it down.
+// A list, a base and an index stay apart, as in `entries`: the specs name them so, and a struct of them would lengthen each clause.
 #![tactic(auto)]
 
 ghost use Rattle.std.specs.Prelude.{◌≡◌, [], ◌∷◌, ◌+◌, ◌≤◌, ◌<◌};
@@ -13,7 +14,7 @@ use answers::{Check, File};
 use codes::Kind;
 use std::ops::Range;
 
-// The counts: symbols and statements.
+// The counts: symbols and statements. Each names its place; one function for counts of a byte is `base::byte_at`.
 pub fn symbol_count(s: &[u8]) -> u8
     ensures { result ≡ symbols s.now }
 {
@@ -63,7 +64,8 @@ pub fn statements_at(s: &[u8]) -> u32
     type_at(s, symbol_count(s))
 }
 
-// Numbers 1 to 4.
+// Numbers 1 to 4. Three functions alike in the three files, and no trait: it would want the file, its counts, limits and length, and
+// their definitions as items, all for one call.
 #[tactic(auto, unfolding(crate::specs::Layout::counts_ok))]
 fn counts_ok(s: &[u8]) -> bool
     ensures { result ≡ counts_ok s.now }
@@ -81,10 +83,11 @@ fn length_ok(s: &[u8]) -> bool
 fn check_frame(s: &[u8]) -> Check
     ensures { result ≡ least (frame_rungs s.now) }
 {
-    opening::check_frame(s, File::List, counts_ok(s), length_ok(s))
+    opening::check_frame(s, File::List as u8, counts_ok(s), length_ok(s))
 }
 
 // The bytes are exactly one type. One is wanted at first; each code takes one off, and adds those that follow it.
+// `type_bytes::type_end` counts alike, but asks no version and says where a type ends; their laws are two (docs/DECISIONS.md 67).
 #[tactic(auto, using(crate::proofs::Wanted::wanted_steps))]
 fn is_type(t: &[u8], version: usize) -> bool
     ensures { result ≡ wants version 1 t.now }
@@ -109,7 +112,7 @@ fn type_ok(s: &[u8], at: u32) -> bool
         .is_some_and(|t| is_type(t, version))
 }
 
-// Number 5 of the types.
+// Number 5 of the types. A `for` and no `find`, since the place is carried along.
 #[tactic(auto, using(crate::proofs::Walks::walk_steps), unfolding(crate::specs::Layout::type_ok))]
 fn walk_types(s: &[u8]) -> Check
     ensures { result ≡ least (type_rung s.now ∷ []) }
@@ -140,13 +143,13 @@ pub fn operand_at(s: &[u8], base: u32, i: u16, j: u8) -> u8
     base::byte_at(s, base as usize + i as usize * 4 + 1 + j as usize)
 }
 
-// Whether statement i gives a register: 1 or 0.
+// Whether statement i gives a register: 1 or 0, a cell of `codes`' table, which the count of registers adds up.
 #[tactic(auto, unfolding(crate::specs::Layout::gives))]
 pub fn gives_at(s: &[u8], base: u32, i: u16) -> u8
     ensures { result ≡ gives s.now base i }
 {
     codes::cell_at(
-        Kind::Statement,
+        Kind::Statement as u8,
         entries::code_at(s, Kind::Statement, base, i),
         4,
     )
@@ -161,7 +164,7 @@ fn statement_ok(s: &[u8], base: u32, i: u16, registers: usize) -> bool
     entries::entry_ok(s, Kind::Statement, base::word_at(s, 3), base, i, &limits)
 }
 
-// Number 5 of the statements. The registers are counted along.
+// Number 5 of the statements. The registers are counted along, hence a `for` and no `find`.
 #[tactic(auto, using(crate::proofs::Walks::walk_steps), unfolding(crate::specs::Layout::statement_ok))]
 fn walk_statements(s: &[u8], free: u16) -> Check
     ensures { result ≡ least (statement_rung s.now free ∷ []) }
@@ -185,7 +188,8 @@ pub fn check_list(s: &[u8], free: u16) -> Check
     walk_statements(s, free)
 }
 
-// The part of a list that holds a symbol's type.
+// The part of a list that holds a symbol's type. Document 01 asks for let else here. The cast stands behind its test: `try_from` would add
+// an answer that never comes.
 #[tactic(auto, using(crate::proofs::Parts::part_steps))]
 pub fn type_part(list: &[u8], symbol: usize) -> Option<Range<usize>>
     ensures { result ≡ part_of list.now symbol }
@@ -199,7 +203,7 @@ pub fn type_part(list: &[u8], symbol: usize) -> Option<Range<usize>>
     None
 }
 
-// The bytes of a symbol's type, as the part of the list that holds them.
+// The bytes of a symbol's type, as the part of the list that holds them; document 01 asks for an empty part where there is none.
 #[tactic(auto, using(crate::proofs::Parts::part_steps))]
 pub fn type_of<'a>(list: &'a [u8], symbol: usize) -> &'a [u8]
     ensures { result.now ≡ type_bytes list.now symbol }

@@ -11,6 +11,8 @@ ghost use Rattle.machine.specs.Statements.{StatementsRun};
 use effects::{Ending, Run, State};
 
 // How a run ended: the ending's number, the statement's index, supplies used, messages logged, values in the table.
+// C is given these five numbers: so the ending is one, and three are copied out of a `State`, which counts registers too.
+// Nothing copies or compares a `Ran`.
 #[derive(Drop)]
 pub struct Ran {
     pub ending: u8,

@@ -1,4 +1,5 @@
 // Marks in an array that has a place for every byte, so that no index can be out of range.
+// It is a plain array, lent as it is: a struct with these as methods would put its field's name into each clause of the callers.
 #![tactic(auto)]
 
 ghost use Rattle.std.specs.Prelude.{◌≡◌, eqb, get_or};

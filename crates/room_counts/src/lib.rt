@@ -11,6 +11,7 @@ ghost use Rattle.room_counts.specs.Room.{Counts};
 use codes::Kind;
 
 // The statements whose op passes a test.
+// They are no more than the list has, whose count has 16 bits: `as` cuts nothing.
 fn count_of<F: Fn(u8) -> bool>(list: &[u8], test: F) -> u16
     requires { F.IsAlwaysCallable test }
     ensures { Counts (F.post test) list.now result }

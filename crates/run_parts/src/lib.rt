@@ -1,7 +1,9 @@
 // What a statement of a run works on, part by part: the registers in a lent array, the messages in a lent buffer, the trace's supply,
 // and the test of a value by a symbol's type.
-// A register is one number: twice the index of its value, and 1 more where it means a symbol.
+// A register is one number: twice the index of its value, and 1 more where it means a symbol. Document 01 names records in a lent slice
+// for them, which come with request n) (docs/DECISIONS.md 37).
 // Nothing is asked of the caller: registers that are not given hold value 0, and what has no room is not written.
+// So none of these public functions can fail, and none answers an `Option` (docs/DECISIONS.md 12): a count stays where it is full.
 #![tactic(auto)]
 
 ghost use Rattle.std.specs.Prelude.{◌≡◌};
@@ -39,6 +41,7 @@ pub fn give(registers: &mut Registers, given: u16, number: u32) -> u16
 // ── Messages, types, supply ──
 
 // Logs a message: 0 sent or 1 received, channel, value.
+// The direction is the byte that is written. C lends the buffer, whose bytes beyond keep their values: so the count stands beside it.
 pub fn say(log: &mut [u8], logged: u16, direction: u8, c: u16, v: u16) -> u16
     ensures { Says log.old logged direction c v log.new result }
 {

@@ -1,5 +1,7 @@
 // The symbols' types in slots of one lent array, and a wanted type pushed down a term of a role table.
 // There are 96 slots of 129 bytes, each with a type at its start; a type shows its own end, so a slot has no length byte.
+// They stand flat in a slice of any length: the public functions here, of `typing`, `type_lists` and `type_match` ask no length of it, as
+// `[[u8; 129]; 96]` would.
 #![tactic(auto)]
 
 ghost use Rattle.std.specs.Prelude.{◌≡◌, [], ◌∷◌, ◌+◌, ◌*◌, ◌<◌, length, MatchOption};
@@ -12,7 +14,7 @@ use arrayvec::ArrayVec;
 use codes::Kind;
 use type_bytes::{CIPHERTEXT, MESSAGE, NAME, PAIR};
 
-// The code of term t, and its part j. Past the end stands symbol 0, as in the meaning of a table.
+// The code of term t, and its part j. Past the end stands symbol 0, as in the meaning of a table. A code is a byte of it, known or not.
 pub fn term_code(table: &[u8], t: u8) -> u8
     ensures { result ≡ code_at table.now t }
 {
@@ -33,7 +35,7 @@ pub fn term_part(table: &[u8], t: u8, j: u8) -> u8
     }
 }
 
-// The widest type that the sort of symbol x allows: Name for a name, Message for a variable.
+// The widest type that the sort of symbol x allows: Name for a name, Message for a variable. It is written as the slot's first byte.
 fn widest_code(table: &[u8], x: u8) -> u8
     ensures { bytes (widest_of table.now x) ≡ result ∷ [] }
 {
@@ -79,6 +81,7 @@ pub fn start(work: &mut [u8], table: &[u8])
 }
 
 // Meets the type in slot s with the type at p of ty; none where no lower bound fits the slot.
+// It cuts the slot out itself: `slot` lends it to be read, and here it is read and then written.
 fn slot_meet(work: &mut [u8], s: u8, ty: &[u8], p: usize) -> Option<()>
     ensures { Met work.old s ty.now p work.new result }
 {

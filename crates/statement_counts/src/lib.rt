@@ -12,6 +12,7 @@ ghost use Rattle.decoded.specs.Table.{table_of};
 ghost use Rattle.statement_counts.specs.Counts.{due_of, due_count, is_compound, compound_count};
 
 // How many statements step k makes due.
+// One test with two answers: a `match` on the code would say no more.
 #[tactic(auto, using(crate::proofs::Counts::due_by_code))]
 fn due_of(s: &[u8], k: u8) -> usize
     ensures { result ≡ due_of s.now k }

@@ -1,6 +1,9 @@
 // Symbols bound again, and symbols used before they are bound: numbers 8 and 9.
 // One pass over the steps finds each symbol's binding step, one over the terms the latest binding step inside each term,
 // and one more over the steps compares. A shared term is looked at once, however often it is used.
+// The arrays, one by symbol and one by term, hold 0 for none, or a step and 1, so that the later one is `max`: they are fixed memory, which
+// `Option<u8>` would double. What they hold stands in clauses: how far an array has come (step k, term i, all) differs from clause to
+// clause, so that each would ask a struct for it again. Only two functions take both.
 #![tactic(auto)]
 
 ghost use Rattle.std.specs.Prelude.{◌≡◌, [], ◌∷◌, ◌+◌, ◌<◌};
@@ -20,7 +23,8 @@ pub fn is_binder(s: &[u8], k: u8, j: u8) -> bool
     role == codes::NAME || role == codes::VARIABLE
 }
 
-// Notes step k as the binding step of the symbol in its field j, if that binds one.
+// Notes step k as the binding step of the symbol in its field j, if that binds one. That k + 1 fits is asked here and in `bind_step` alone:
+// a type for such steps would be made for these two.
 fn bind_field(binders: &mut [u8; 256], s: &[u8], k: u8, j: u8)
     requires { k < 255 }
     ensures { Put binders.old binders.new (binds_at s.now k j) (k + 1) }
@@ -67,7 +71,7 @@ fn binds_new(binders: &[u8; 256], s: &[u8], k: u8) -> bool
     !binds_again(binders, s, k, 2) && !binds_again(binders, s, k, 3) && !binds_twice(s, k)
 }
 
-// Number 8, and the binding step of each symbol where there is no fault.
+// Number 8, and the binding step of each symbol where there is no fault. A `for` and no `find`, since the steps are noted on the way.
 fn bind_all(binders: &mut [u8; 256], s: &[u8]) -> Check
     requires { binders.old ≡ blank }
     ensures number { result ≡ least (bind_rung s.now ∷ []) }
@@ -82,7 +86,8 @@ fn bind_all(binders: &mut [u8; 256], s: &[u8]) -> Check
     Ok(())
 }
 
-// The latest binding step inside field j of term i, given those of the lower terms.
+// The latest binding step inside field j of term i, given those of the lower terms. A `match` with a guard was tried: it leaves a goal
+// under a name of Rattle's own, which no answer may cite.
 fn field_latest(binders: &[u8; 256], late: &[u8; 256], s: &[u8], i: u8, j: u8) -> u8
     requires { (Binders s.now (steps s.now) binders.now) × Latest s.now i late.now }
     ensures { result ≡ field_latest s.now (latest s.now i) i j }

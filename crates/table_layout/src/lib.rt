@@ -1,4 +1,6 @@
 // The role table's layout: its parts read by index, and numbers 1 to 5.
+// A table and an index stay two parameters, here and in the crates above: the specs name them so, and a struct of them would lengthen
+// each clause by its fields and each call by its making.
 #![tactic(auto)]
 
 ghost use Rattle.std.specs.Prelude.{◌≡◌, [], ◌∷◌};
@@ -10,7 +12,7 @@ ghost use Rattle.table_layout.specs.Faults.{frame_rungs, symbol_rung, term_rung,
 use answers::{Check, File};
 use codes::Kind;
 
-// The counts: symbols, terms, steps.
+// The counts: symbols, terms, steps. Each names its byte; one function for all of them is `base::byte_at`.
 pub fn symbol_count(s: &[u8]) -> u8
     ensures { result ≡ symbols s.now }
 {
@@ -42,15 +44,15 @@ fn steps_at(s: &[u8]) -> u32
     8 + symbol_count(s) as u32 + 3 * term_count(s) as u32
 }
 
-// The sort of a symbol.
+// The sort of a symbol: the byte as it is read, 0 of a name, 1 of a variable, and any other until number 5 is decided.
 pub fn sort_at(s: &[u8], x: u8) -> u8
     ensures { result ≡ sort s.now x }
 {
     base::byte_at(s, 8 + base::wide(x))
 }
 
-// The fields of a term and of a step, their roles and their codes. One function for any kind is `entries`' own: these name the kind and
-// where it begins, which each caller would else write.
+// The fields of a term and of a step, their roles and their codes, as bytes that may be unknown. One function for any kind is `entries`'
+// own: these name the kind and where it begins, which each caller would else write.
 pub fn term_role(s: &[u8], i: u8, j: u8) -> u8
     ensures { result ≡ term_role s.now i j }
 {
@@ -93,7 +95,8 @@ pub fn step_code(s: &[u8], k: u8) -> u8
     entries::code_at(s, Kind::Step, steps_at(s), k as u16)
 }
 
-// Numbers 1 to 4.
+// Numbers 1 to 4. Three functions alike in the three files, and no trait: it would want the file, its counts, limits and length, and
+// their definitions as items, all for one call.
 fn counts_ok(s: &[u8]) -> bool
     ensures { result ≡ counts_ok s.now }
 {
@@ -109,7 +112,7 @@ fn length_ok(s: &[u8]) -> bool
 pub fn check_frame(s: &[u8]) -> Check
     ensures { result ≡ least (frame_rungs s.now) }
 {
-    opening::check_frame(s, File::Table, counts_ok(s), length_ok(s))
+    opening::check_frame(s, File::Table as u8, counts_ok(s), length_ok(s))
 }
 
 // Number 5: symbols, terms, steps.
@@ -122,7 +125,7 @@ fn check_symbols(s: &[u8]) -> Check
     }
 }
 
-// Field j of step k binds a symbol of its sort, or none.
+// Field j of step k binds a symbol of its sort, or none. Sorts are compared as bytes, since any byte may stand there.
 fn sort_ok(s: &[u8], k: u8, j: u8) -> bool
     ensures { result ≡ sort_ok s.now k j }
 {

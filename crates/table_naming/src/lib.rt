@@ -63,7 +63,8 @@ fn mark_all_uses(marks: &mut [u8; 256], s: &[u8])
     }
 }
 
-// The first term without a mark.
+// The first term without a mark. A mark is a byte, 0 or 1, since `marks` and its law serve arrays of steps too; made generic for bools they
+// would be no plainer.
 fn first_idle(marks: &[u8; 256], s: &[u8]) -> Check
     requires { Put blank marks.now (named s.now) 1 }
     ensures { result ≡ least (idle_rung s.now ∷ []) }

@@ -13,7 +13,7 @@ use codes::Kind;
 // Where the values begin.
 const VALUES_AT: u32 = 10;
 
-// The number of values, V.
+// The number of values, V. The three counts each name their place; one function for them is `base::word_at`, or `byte_at`.
 #[tactic(auto, unfolding(base::specs::Bytes::word, base::specs::Bytes::byte))]
 pub fn value_count(s: &[u8]) -> u16
     ensures { result ≡ values s.now }
@@ -51,7 +51,7 @@ fn supplies_at(s: &[u8]) -> u32
     starts_at(s) + 2 * starting_count(s) as u32
 }
 
-// Where 16-bit index i stands, of those from a base offset on.
+// Where 16-bit index i stands, of those from a base offset on. `entries::place_of` goes by a kind of entry, which an index is not.
 fn index_place(base: u32, i: u16) -> usize
     ensures { result ≡ index_place base i }
 {
@@ -66,7 +66,7 @@ fn index_at(s: &[u8], base: u32, i: u16) -> usize
     base::word_at(s, index_place(base, i))
 }
 
-// Starting value i, an index of a value.
+// Starting value i, an index of a value. This and `supply_at` name where the indexes begin; one function for both is `index_at`.
 pub fn starting_at(s: &[u8], i: u16) -> usize
     ensures { result ≡ starting s.now i }
 {
@@ -80,7 +80,8 @@ pub fn supply_at(s: &[u8], i: u16) -> usize
     index_at(s, supplies_at(s), i)
 }
 
-// No count is over its limit.
+// No count is over its limit. This, `length_ok` and `check_frame` are alike in the three files, and no trait: it would want the file, its
+// counts, its limits, its length and their definitions as items, all for one call.
 #[tactic(auto, unfolding(crate::specs::Layout::counts_ok))]
 fn counts_ok(s: &[u8]) -> bool
     ensures { result ≡ counts_ok s.now }
@@ -135,7 +136,7 @@ fn check_entries(s: &[u8]) -> Check
 fn check_frame(s: &[u8]) -> Check
     ensures { result ≡ least (frame_rungs s.now) }
 {
-    opening::check_frame(s, File::Trace, counts_ok(s), length_ok(s))
+    opening::check_frame(s, File::Trace as u8, counts_ok(s), length_ok(s))
 }
 
 // Numbers 1 to 6 of a trace.

@@ -23,6 +23,8 @@ use answers::Check;
 
 // How far the translation has come: the marks of the symbols and of the compound terms that have registers, how many registers are given,
 // and where the next statement goes.
+// How much room there is, for registers and in out, is no invariant of it: each function asks for what it is about to make, another amount
+// each time (`SomeReady`, `AllReady`, a count below 255 or 254), and at the end there may be none.
 #[derive(Drop)]
 struct Progress {
     symbols: [u8; 256],
@@ -97,6 +99,7 @@ fn state_step(s: &[u8], k: u8, progress: &Progress, out: &mut [u8]) -> usize
     let x = table_layout::step_field(s, k, 2);
     let y = table_layout::step_field(s, k, 3);
     let at = progress.at;
+    // By the code, a byte of the table: document 01 asks for a match here, with a range for unknown codes.
     // Each arm appends: bytes lent out of an arm are past the borrow checker.
     match table_layout::step_code(s, k) {
         0 => buffers::append(out, at, &[0, p, q, 0]),

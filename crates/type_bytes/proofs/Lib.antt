@@ -3,4 +3,3 @@ pub mod EndLaws
 pub mod CountLaws
 pub mod HowLaws
 pub mod MeetLaws
-pub mod PendingLaws

@@ -2,4 +2,3 @@
 pub mod Lower
 pub mod Ends
 pub mod Meets
-pub mod Pending

@@ -1,5 +1,6 @@
 // Types in prefix order: where one ends, a copy of one, and the greatest lower bound of two.
 // Each reader starts at a place of any list; nothing is asked of the bytes. What is written goes to the start of a lent buffer.
+// The place stands beside the bytes here, in `slots` and in `visible`: a part `&s[p..]` would ask the caller that p lies inside.
 #![tactic(auto)]
 
 ghost use Rattle.std.specs.Prelude.{◌≡◌};
@@ -32,6 +33,7 @@ pub fn type_end(s: &[u8], p: usize) -> Option<usize>
     while 0 < wanted {
         let b = *s.get(at)?;
         at += 1;
+        // By the code: it is a byte of any list, and the arm of the unknown ones stands beside the others.
         match b {
             MESSAGE..=SHKEY => wanted -= 1,
             PAIR => wanted += 1,
@@ -54,6 +56,7 @@ pub fn copy_type(out: &mut [u8], s: &[u8], p: usize) -> Option<usize>
     ensures { Copied s.now p out.old out.new result }
 {
     let e = type_end(s, p)?;
+    // Both ends lie inside, since `type_end` found them: `get` would add an answer that never comes.
     if buffers::copy(out, &s[p..e]) {
         Some(e - p)
     } else {
@@ -94,7 +97,8 @@ fn how_codes_meet(x: u8, y: u8) -> How
 }
 
 // Writes the greatest lower bound of the types at p of a and at q of b to the start of out. Answers how many bytes it has; none where
-// there is no such bound, or it does not fit.
+// there is no such bound, or it does not fit. Each piece is written through a part of out that starts behind the one before it, the form
+// that document 01 names for types and statements.
 pub fn meet(out: &mut [u8], a: &[u8], p: usize, b: &[u8], q: usize) -> Option<usize>
     ensures { Meets a.now p b.now q out.old out.new result }
 {

@@ -17,6 +17,7 @@ pub struct NoTyping {
 // ── The terms that stand in a step ──
 
 // Marks the parts of term u, if it is marked.
+// A mark is 0 or 1 and still a byte: `table_naming` writes into the same array, and elsewhere `marks` holds steps and registers.
 fn mark_parts(marks: &mut [u8; 256], table: &[u8], u: u8)
     ensures { PartsPut table.now u marks.old marks.new }
 {
@@ -73,6 +74,7 @@ fn need_keys(work: &mut [u8], table: &[u8], marks: &[u8; 256]) -> Option<()>
 // ── What a step wants of its terms ──
 
 // Copies the type in slot x to the start of out; how many bytes it has.
+// Without such a slot that is 0 and no `None`: `put_pair` goes on behind what was written, and would open an `Option` to the same 0.
 fn put_slot(out: &mut [u8], work: &[u8], x: u8) -> usize
     ensures { SlotPut work.now x out.old out.new result }
 {
@@ -82,7 +84,7 @@ fn put_slot(out: &mut [u8], work: &[u8], x: u8) -> usize
     type_bytes::copy_type(out, slot, 0).unwrap_or(0)
 }
 
-// Writes the pair type of the types in slots x and y to the start of out.
+// Writes the pair type of the types in slots x and y to the start of out, each through a part that starts behind what stands before it.
 fn put_pair(out: &mut [u8; 259], work: &[u8], x: u8, y: u8)
     ensures { PairPut work.now x y out.new }
 {
@@ -130,6 +132,7 @@ fn want_cipher(work: &mut [u8], table: &[u8], k: u8) -> Option<()>
 fn put_wants(work: &mut [u8], table: &[u8], k: u8) -> Option<()>
     ensures { WantsPut work.old table.now k work.new result }
 {
+    // By the code, a byte of the table: document 01 asks for a match here, with a range for unknown codes.
     match table_layout::step_code(table, k) {
         0 | 1 => slots::push(
             work,

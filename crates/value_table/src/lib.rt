@@ -1,5 +1,7 @@
 // The value table of a run: values of five bytes from the start of a lent buffer on, and bytes beyond keep their values.
 // Past the first so many values, and where a tag is unknown, the plain atom 0 is read, so that no reader asks for a bound.
+// A tag is a byte of the value, known or not: 0 an atom, 1 a pair, 2 a ciphertext. It stays a number, since `append` writes messages too,
+// whose first byte is a direction, and `find` compares it with bytes.
 #![tactic(auto)]
 
 ghost use Rattle.std.specs.Prelude.{◌≡◌};
@@ -53,6 +55,7 @@ fn put_numbers(out: &mut [u8], tag: u8, a: u16, b: u16)
 }
 
 // Writes them after n others of five bytes.
+// Through a part that starts mid-buffer, the form that document 01 names for types and statements.
 pub fn append(out: &mut [u8], n: u16, tag: u8, a: u16, b: u16)
     ensures { Appended out.old n tag a b out.new }
 {
@@ -73,6 +76,7 @@ pub fn copy_values(values: &mut [u8], trace: &[u8])
 }
 
 // Value i has this tag and these numbers. One of another tag is passed over at once: a search comes to many such.
+// So they are read and compared one by one: a derived `==` would read the whole value first.
 fn is_same(values: &[u8], count: u16, i: u16, tag: u8, a: u16, b: u16) -> bool
     ensures { result ≡ same_at values.now count tag a b i }
 {
@@ -92,6 +96,7 @@ fn find(values: &[u8], count: u16, tag: u8, a: u16, b: u16) -> Option<u16>
 }
 
 // The index of a value that is made of others, which is appended if it is not yet present.
+// This cannot fail: where the count is full it stays, and nothing is written.
 pub fn make(values: &mut [u8], count: u16, tag: u8, a: u16, b: u16) -> Made
     ensures { Makes values.old count tag a b values.new result }
 {

@@ -8,6 +8,7 @@ ghost use Rattle.visible.specs.Seen.{atom_of, leaf_of, Seen};
 use arrayvec::ArrayVec;
 
 // A value of this tag and first number is an atom that has the basic type of code b: 1 Name, 2 Channel, 3 ShKey.
+// Codes and tags are bytes of the files, known or not, so that they are numbers here and below.
 fn is_atom_of(b: u8, tag: u8, kind: u16) -> bool
     ensures { result ≡ atom_of b tag kind }
 {

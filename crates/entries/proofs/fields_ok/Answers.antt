@@ -7,4 +7,4 @@ use Rattle.entries.proofs.fields_ok.Goals as goal
 
 pub returns : goal.returns
 unfolding fields_ok
-returns c = rw (← c.field_count.ensures) (all_in_range _ _ c.all.ensures.ran (λ x b q k. search (rules, tests)))
+returns c = rw (← c.number.ensures, ← c.field_count.ensures) (all_in_range _ _ c.all.ensures.ran (λ x b q k. search (rules, tests)))

@@ -5,4 +5,4 @@ use Rattle.entries.proofs.role_at.Goals as goal
 
 pub returns : goal.returns
 unfolding role
-returns c = c.cell_at.ensures ∙ rw c.code_at.ensures
+returns c = c.cell_at.ensures ∙ rw (c.number.ensures, c.code_at.ensures)
