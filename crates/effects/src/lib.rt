@@ -90,7 +90,7 @@ impl Run<'_> {
         run_parts::passes(self.list, x, self.values, self.state.count, v)
     }
 
-    // Value v differs from every value that a symbol holds.
+    // Value v neither is, nor occurs at any depth inside, a value that a register holds for a symbol.
     fn is_fresh(&self, v: u16) -> bool
         ensures { FreshBy self.now.values.now self.now.state.count self.now.registers self.now.state.registers v result }
     {
