@@ -1,10 +1,11 @@
--- Laws of `over`: one byte, and a part that is lent from the end of what is written. Assumes nothing.
+-- Laws of `over`: one byte more, a copy byte by byte, and a part that is lent from the end of what is written. Assumes nothing.
 use mathlib.Core.Path.{◌≡◌, refl, ◌∙◌}
 use mathlib.Core.List.{List, [], ◌∷◌, ◌++◌, append_assoc, append-nil}
-use Prim.Native.Nat.{ℕ, ◌+◌, ◌-◌, ◌≤◌, ◌<◌}
+use Prim.Native.Nat.{ℕ, suc, ◌+◌, ◌-◌, ◌≤◌, ◌<◌}
 use native.Mathlib.Omega.{arith}
-use lib.ListN.{length, take, drop, set, length-append, length-drop, length-set}
-use lib.Seq.{drop-drop, take-append_seam, drop-append_seam, drop-length}
+use native.Mathlib.Numerals.{add-one}
+use lib.ListN.{length, take, drop, get_or, set, length-append, length-drop, length-set}
+use lib.Seq.{take_all, length-take-le, take-suc, drop-cons, drop-drop, set-append_seam, take-append_seam, drop-append_seam, drop-length, append_snoc}
 use borrow.Rule.Slice.PartMut.{put_mid, same_len_mid}
 use borrow.Author.Tests.{le-leb, lt-leb}
 use Rattle.buffers.specs.Over.{over, over_if, Appended}
@@ -28,11 +29,27 @@ over_fits w z h = rw (le-leb _ _ h)
 pub over_short : (w z : List ℕ) → length z < length w → over_if w z ≡ z
 over_short w z h = rw (lt-leb _ _ h)
 
+-- one byte more
+pub over_more : (w z : List ℕ) (b : ℕ) → length w < length z → set (over w z) (length w) b ≡ over (w ++ (b ∷ [])) z
+unfolding over
+over_more w z b h =
+    let q : length (w ++ (b ∷ [])) ≡ suc (length w) = simp length-append (omega arith) in
+    rw (drop-cons z (length w) 0 h, set-append_seam, q, append_snoc)
+
 -- one byte at the start
 pub over_first : (z : List ℕ) (b : ℕ) → 0 < length z → set z 0 b ≡ over (b ∷ []) z
 unfolding over
-over_first [] b h = absurd (omega arith)
-over_first (x ∷ z) b h = refl
+over_first z b h = over_more [] z b h
+
+-- a loop that copies b to the start of z, and has come to i: one element more, and the end
+module _ (b z o : List ℕ) (i : ℕ) (q : o ≡ over (take i b) z) where
+  pub over_copied : i < length b → length b ≤ length z → set o i (get_or b i 0) ≡ over (take (i + 1) b) z
+  over_copied h g =
+      let n : length (take i b) ≡ i = length-take-le i b (omega arith) in
+      rw (q, add-one, take-suc b i 0 h) (rw n at (over_more (take i b) z (get_or b i 0) (omega arith)))
+
+  pub over_all : length b ≤ i → o ≡ over b z
+  over_all h = rw (take_all i b h) at q
 
 -- a part from the end of what is written was lent, and came back with e at its start
 pub over_part : (w e z : List ℕ)

@@ -5,8 +5,8 @@
 ghost use Rattle.std.specs.Prelude.{◌≡◌, ◌+◌, ◌<◌, ◌≤◌, leb, length};
 ghost use Rattle.buffers.specs.Over.{over_if, Appended};
 
-// Copies bytes.
-#[tactic(auto, unfolding(crate::specs::Over::over))]
+// Copies bytes. Byte by byte: with `copy_from_slice` the archive for C would need `memmove` from outside, and it asks for `memcpy` and
+// `memset` alone.
 pub fn copy(out: &mut [u8], bytes: &[u8]) -> bool
     ensures fits { result ≡ leb (length bytes.now) (length out.old) }
     ensures written { out.new ≡ over_if bytes.now out.old }
@@ -14,7 +14,9 @@ pub fn copy(out: &mut [u8], bytes: &[u8]) -> bool
     if bytes.len() > out.len() {
         return false;
     }
-    out[..bytes.len()].copy_from_slice(bytes);
+    for i in 0..bytes.len() {
+        out[i] = bytes[i];
+    }
     true
 }
 
