@@ -140,16 +140,15 @@ pub fn entry_bytes(kind: Kind) -> usize
 }
 
 // Whether a version knows the code of an entry of a kind. A known code has a row, whose first column says since which version.
-// Document 01 asks for a match here, with a range for unknown codes.
+// Document 01 asks for a match here, with a range for unknown codes. The kind is a byte, as at `cell_at`: of one that is none, `kind_none`
+// says that no code is known.
 #[tactic(auto, unfolding(crate::specs::Rows::known, crate::specs::Rows::rows, base::specs::Bytes::byte))]
-pub fn code_known(kind: Kind, version: usize, op: u8) -> bool
-    ensures { result ≡ known (kind_number kind) version op }
+pub fn code_known(kind: u8, version: usize, op: u8) -> bool
+    ensures { result ≡ known kind version op }
 {
     match (kind, op) {
-        (Kind::Term | Kind::Value, 0..=2) | (Kind::Step, 0..=5) | (Kind::Statement, 0..=8) => {
-            cell_at(kind.number(), op, 0) as usize <= version
-        }
-        (_, 0..=255) => false,
+        (0 | 3, 0..=2) | (1, 0..=5) | (2, 0..=8) => cell_at(kind, op, 0) as usize <= version,
+        (0..=255, 0..=255) => false,
     }
 }
 

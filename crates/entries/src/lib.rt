@@ -54,11 +54,17 @@ pub fn role_at(s: &[u8], kind: Kind, base: u32, i: u16, j: u8) -> u8
     codes::cell_at(kind.number(), code_at(s, kind, base, i), j as u16 + 1)
 }
 
-// All fields lie below the limits of their roles.
+// All fields lie below the limits of their roles. A `for` and no `all`, in whose closure what is the same for each field is read for each.
 fn fields_ok(s: &[u8], kind: Kind, base: u32, i: u16, limits: &[usize]) -> bool
     ensures { result ≡ fields_ok s.now (kind_number kind) base i limits.now }
 {
-    (0..codes::field_count(kind.number())).all(|j| field_ok(s, kind, base, i, limits, j))
+    let n = codes::field_count(kind.number());
+    for j in 0..n {
+        if !field_ok(s, kind, base, i, limits, j) {
+            return false;
+        }
+    }
+    true
 }
 
 // Field j lies below the limit of its role.
@@ -73,7 +79,7 @@ fn field_ok(s: &[u8], kind: Kind, base: u32, i: u16, limits: &[usize], j: u8) ->
 pub fn entry_ok(s: &[u8], kind: Kind, version: usize, base: u32, i: u16, limits: &[usize]) -> bool
     ensures { result ≡ entry_ok s.now (kind_number kind) version base i limits.now }
 {
-    codes::code_known(kind, version, code_at(s, kind, base, i))
+    codes::code_known(kind.number(), version, code_at(s, kind, base, i))
         && fields_ok(s, kind, base, i, limits)
 }
 

@@ -5,8 +5,8 @@ use Rattle.entries.proofs.entry_ok.Goals as goal
 
 pub returns-then-code_known : goal.returns-then-code_known
 unfolding entry_ok
-returns-then-code_known c = rw (← c.code_at.ensures, sym c.code_known.ensures ∙ c.if-code_known.true) c.fields_ok.ensures
+returns-then-code_known c = rw (← c.code_at.ensures, rw c.number.ensures at (sym c.code_known.ensures ∙ c.if-code_known.true)) c.fields_ok.ensures
 
 pub returns-else-code_known : goal.returns-else-code_known
 unfolding entry_ok
-returns-else-code_known c = rw (c.if-code_known.false, ← c.code_at.ensures, sym c.code_known.ensures ∙ c.if-code_known.false)
+returns-else-code_known c = rw (c.if-code_known.false, ← c.code_at.ensures, rw c.number.ensures at (sym c.code_known.ensures ∙ c.if-code_known.false))
