@@ -102,14 +102,13 @@ fn is_type(t: &[u8], version: usize) -> bool
     wanted == 0
 }
 
-// The type at a place is in order.
+// The type at a place is in order. Not by `get` and a closure, by which `type_of` takes a quarter longer (docs/LOOK-BACK.md).
 #[tactic(auto, unfolding(crate::specs::Layout::type_ok_at))]
 fn type_ok(s: &[u8], at: u32) -> bool
     ensures { result ≡ type_ok_at s.now at }
 {
-    let version = base::word_at(s, 3);
-    s.get(body_range(s, at))
-        .is_some_and(|t| is_type(t, version))
+    let part = body_range(s, at);
+    part.end <= s.len() && is_type(&s[part], base::word_at(s, 3))
 }
 
 // Number 5 of the types. A `for` and no `find`, since the place is carried along.
