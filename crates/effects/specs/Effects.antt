@@ -97,13 +97,16 @@ pub record Does (b m : ℕ) (f : Doing) (l tr w w' o o' g g' : List ℕ) (s s' :
       → Keeps tr z y es rs su ms w o g s → Room b m z y es rs ms
       → let d = f (types_of signature1 As) es rs su in Comes tr z y d.0 rs ms w' o' g' s' d.1 r
 
--- a run works on the same list, trace and buffers
+-- a run works on the same list, trace, buffers and registers, and the buffers keep their lengths
 pub record Same (old new : Run) : Type 0 where
   pub list : new.list.now ≡ old.list.now
   pub trace : new.trace.now ≡ old.trace.now
   pub values : new.values.ghost_name ≡ old.values.ghost_name
   pub log : new.log.ghost_name ≡ old.log.ghost_name
+  pub registers : new.registers.ghost_name ≡ old.registers.ghost_name
+  pub values_long : length new.values.now ≡ length old.values.now
+  pub log_long : length new.log.now ≡ length old.log.now
 
 -- what is done to a run
 abbrev pub RunDoes : ℕ → ℕ → Doing → Run → Run → Result ⊤ CodeEnding → Type 0
-RunDoes b m f old new r = Does b m f old.list.now old.trace.now old.values.now new.values.now old.log.now new.log.now old.registers new.registers old.state new.state r
+RunDoes b m f old new r = Does b m f old.list.now old.trace.now old.values.now new.values.now old.log.now new.log.now old.registers.now new.registers.now old.state new.state r

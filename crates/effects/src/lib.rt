@@ -38,14 +38,14 @@ pub enum Ending {
     NoCiphertext,
 }
 
-// A run: the list and the trace, the value table and the messages in lent buffers, the registers, and how far it has come.
+// A run: the list and the trace, the value table and the messages in lent buffers, the registers in a lent array, and how far it has come.
 #[derive(Drop)]
 pub struct Run<'a> {
     pub list: &'a [u8],
     pub trace: &'a [u8],
     pub values: &'a mut [u8],
     pub log: &'a mut [u8],
-    pub registers: [u32; 608],
+    pub registers: &'a mut [u32; 608],
     pub state: State,
 }
 
@@ -64,9 +64,9 @@ impl Run<'_> {
 
     // The value in register p.
     pub fn value_in(&self, p: u8) -> u16
-        ensures { result ≡ held_in self.now.registers self.now.state.registers p }
+        ensures { result ≡ held_in self.now.registers.now self.now.state.registers p }
     {
-        run_parts::value_in(&self.registers, self.state.registers, p)
+        run_parts::value_in(self.registers, self.state.registers, p)
     }
 
     // The tag of value v.
@@ -92,12 +92,12 @@ impl Run<'_> {
 
     // Value v neither is, nor occurs at any depth inside, a value that a register holds for a symbol.
     fn is_fresh(&self, v: u16) -> bool
-        ensures { FreshBy self.now.values.now self.now.state.count self.now.registers self.now.state.registers v result }
+        ensures { FreshBy self.now.values.now self.now.state.count self.now.registers.now self.now.state.registers v result }
     {
         freshness::is_fresh(
             self.values,
             self.state.count,
-            &self.registers,
+            self.registers,
             self.state.registers,
             v,
         )
@@ -107,20 +107,20 @@ impl Run<'_> {
     fn bind(&mut self, x: u8, v: u16, lacks: Ending) -> Result<(), Ending>
         ensures same { Same self.old self.new }
         ensures kept { (self.new.values.now ≡ self.old.values.now) × (self.new.log.now ≡ self.old.log.now) }
-        ensures binds { Binds self.old.list.now self.old.values.now self.old.registers self.new.registers self.old.state self.new.state x v lacks result }
+        ensures binds { Binds self.old.list.now self.old.values.now self.old.registers.now self.new.registers.now self.old.state self.new.state x v lacks result }
     {
         if !self.passes(x, v) {
             return Err(lacks);
         }
         let number = 2 * v as u32 + 1;
-        self.state.registers = run_parts::give(&mut self.registers, self.state.registers, number);
+        self.state.registers = run_parts::give(self.registers, self.state.registers, number);
         Ok(())
     }
 
     // Sends v on c.
     pub fn send(&mut self, c: u16, v: u16) -> Result<(), Ending>
         ensures same { Same self.old self.new }
-        ensures kept { (self.new.values.now ≡ self.old.values.now) × (self.new.registers ≡ self.old.registers) }
+        ensures kept { (self.new.values.now ≡ self.old.values.now) × (self.new.registers.now ≡ self.old.registers.now) }
         ensures does { RunDoes 0 1 (acting (sends c v)) self.old self.new result }
     {
         self.state.logged = run_parts::say(self.log, self.state.logged, 0, c, v);
@@ -175,7 +175,7 @@ impl Run<'_> {
         }
         let w = self.part_at(v, j);
         let number = 2 * w as u32 + 1;
-        self.state.registers = run_parts::give(&mut self.registers, self.state.registers, number);
+        self.state.registers = run_parts::give(self.registers, self.state.registers, number);
         Ok(())
     }
 
@@ -204,7 +204,7 @@ impl Run<'_> {
         let m = value_table::make(self.values, self.state.count, tag, v, w);
         self.state.count = m.count;
         let number = 2 * m.index as u32;
-        self.state.registers = run_parts::give(&mut self.registers, self.state.registers, number);
+        self.state.registers = run_parts::give(self.registers, self.state.registers, number);
         Ok(())
     }
 }

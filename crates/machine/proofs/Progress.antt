@@ -234,4 +234,4 @@ module _ (l tr w o g : List ℕ) (s : State) (k : ℕ) (w₁ o₁ g₁ : List �
 
 -- a run that works on the same as one that works on the same
 pub same_still : {a b c : Run} → Same a b → Same b c → Same a c
-same_still p q = record { list = q.list ∙ p.list; trace = q.trace ∙ p.trace; values = q.values ∙ p.values; log = q.log ∙ p.log }
+same_still p q = record { list = q.list ∙ p.list; trace = q.trace ∙ p.trace; values = q.values ∙ p.values; log = q.log ∙ p.log; registers = q.registers ∙ p.registers; values_long = q.values_long ∙ p.values_long; log_long = q.log_long ∙ p.log_long }

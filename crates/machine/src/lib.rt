@@ -57,7 +57,7 @@ fn start(trace: &[u8], registers: &mut [u32; 608]) -> u16
 // Runs the statements from the start, until one ends the run.
 fn run_all(run: &mut Run<'_>) -> Ran
     ensures same { Same run.old run.new }
-    ensures ran { RunFrom run.old.list.now run.old.trace.now run.old.values.now run.new.values.now run.old.log.now run.new.log.now run.old.registers run.old.state result }
+    ensures ran { RunFrom run.old.list.now run.old.trace.now run.old.values.now run.new.values.now run.old.log.now run.new.log.now run.old.registers.now run.old.state result }
 {
     let n = list::statement_count(run.list);
     let base = list::statements_at(run.list);
@@ -81,7 +81,7 @@ pub fn run_statements(list: &[u8], trace: &[u8], values: &mut [u8], log: &mut [u
         trace,
         values,
         log,
-        registers,
+        registers: &mut registers,
         state: State {
             used: 0,
             logged: 0,

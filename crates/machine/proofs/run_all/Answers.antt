@@ -5,7 +5,7 @@ use Rattle.machine.proofs.Progress.{run_begins, run_goes_on, run_stops, run_ends
 use Rattle.machine.proofs.run_all.Goals as goal
 
 pub loop-k-init : goal.loop-k-init
-loop-k-init c = (record { list = refl; trace = refl; values = refl; log = refl }, run_begins _ _ _ _ _ _)
+loop-k-init c = (record { list = refl; trace = refl; values = refl; log = refl; registers = refl; values_long = refl; log_long = refl }, run_begins _ _ _ _ _ _)
 
 pub returns-in-Err-clause-ran : goal.returns-in-Err-clause-ran
 returns-in-Err-clause-ran c =

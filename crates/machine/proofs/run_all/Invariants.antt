@@ -4,4 +4,4 @@ use Rattle.machine.proofs.Progress.{Running}
 use Rattle.machine.proofs.run_all.Given as goal
 
 abbrev pub invariant-loop-k : goal.invariant-loop-k
-invariant-loop-k l = let f = l.initial.run in let r = l.run in Same f r × Running f.list.now f.trace.now f.values.now f.log.now f.registers f.state l.k r.values.now r.log.now r.registers r.state
+invariant-loop-k l = let f = l.initial.run in let r = l.run in Same f r × Running f.list.now f.trace.now f.values.now f.log.now f.registers.now f.state l.k r.values.now r.log.now r.registers.now r.state
