@@ -53,7 +53,8 @@ pub fn list_free(s: &[u8], list: &mut [u8; 256]) -> u8
     mark_bound(s, &mut bound);
     let mut count = 0;
     for x in 0..table_layout::symbol_count(s) {
-        if marks::get(&bound, x) == 0 {
+        let is_free = marks::get(&bound, x) == 0;
+        if is_free {
             list[base::wide(count)] = x;
             count += 1;
         }
