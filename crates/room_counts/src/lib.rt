@@ -26,12 +26,18 @@ fn count_of<F: Fn(u8) -> bool>(list: &[u8], test: F) -> u16
 pub fn build_count(list: &[u8]) -> u16
     ensures { result ≡ builds signature1 (statements_of list.now) }
 {
-    count_of(list, |op| matches!(op, 7 | 8))
+    count_of(list, |op| match op {
+        7..=8 => true,
+        0..=6 | 9..=255 => false,
+    })
 }
 
 // The statements that send or receive: 0 and 1.
 pub fn message_count(list: &[u8]) -> u16
     ensures { result ≡ messages signature1 (statements_of list.now) }
 {
-    count_of(list, |op| matches!(op, 0 | 1))
+    count_of(list, |op| match op {
+        0..=1 => true,
+        2..=255 => false,
+    })
 }
