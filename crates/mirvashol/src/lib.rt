@@ -29,11 +29,10 @@ fn give(
 ) -> u8
     ensures { EntriesGiven answer.old answer.new result (number ∷ file ∷ place ∷ a ∷ b ∷ c ∷ d ∷ e ∷ []) }
 {
-    if answer.len() < 8 {
+    let Some(entries) = answer.first_chunk_mut::<8>() else {
         return 255;
-    }
-    let entries = [number as u64, file as u64, place, a, b, c, d, e];
-    answer[..8].copy_from_slice(&entries);
+    };
+    *entries = [number as u64, file as u64, place, a, b, c, d, e];
     number
 }
 
