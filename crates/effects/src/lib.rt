@@ -12,7 +12,7 @@ ghost use Rattle.value_table.specs.Values.{tag_at as tag_of, part_at as part_of}
 ghost use Rattle.run_parts.specs.Registers.{value_in as held_in};
 ghost use Rattle.run_parts.specs.Types.{Passes};
 ghost use Rattle.freshness.specs.Fresh.{FreshBy};
-ghost use Rattle.effects.specs.Effects.{Same, Supplied, Binds, RunDoes, acting, side_number, halving, building};
+ghost use Rattle.effects.specs.Effects.{Same, Supplied, Binds, Does, RunDoes, acting, side_number, halving, building};
 
 // How far a run has come: supplies used, messages logged, values in the table, registers given.
 #[derive(Clone, Copy)]
@@ -49,19 +49,63 @@ pub struct Run<'a> {
     pub state: State,
 }
 
+// The next supplied value, if supply is left.
+fn next_supplied(trace: &[u8], used: u16) -> Result<u16, Ending>
+    ensures { Supplied trace.now used result }
+{
+    if trace::supply_count(trace) <= used {
+        return Err(Ending::NoSupply);
+    }
+    Ok(run_parts::supplied(trace, used))
+}
+
+// Symbol x gets v, if v has its type; else the run ends.
+fn bind(
+    list: &[u8],
+    values: &[u8],
+    registers: &mut [u32; 608],
+    state: &mut State,
+    x: u8,
+    v: u16,
+    lacks: Ending,
+) -> Result<(), Ending>
+    ensures { Binds list.now values.now registers.old registers.new state.old state.new x v lacks result }
+{
+    if !run_parts::passes(list, x, values, state.count, v) {
+        return Err(lacks);
+    }
+    let number = 2 * v as u32 + 1;
+    state.registers = run_parts::give(registers, state.registers, number);
+    Ok(())
+}
+
+// Takes the next supplied value as the fresh name x: supply left, taken, an atom and fresh, then its type.
+// No method, since it writes neither buffer: a caller that is lent the values to be read only can make no `Run`.
+pub fn fresh(
+    list: &[u8],
+    trace: &[u8],
+    values: &[u8],
+    registers: &mut [u32; 608],
+    state: &mut State,
+    x: u8,
+) -> Result<(), Ending>
+    ensures { (o : List ℕ) → Does 0 0 (acting (freshens x)) list.now trace.now values.now values.now o o registers.old registers.new state.old state.new result }
+{
+    let v = next_supplied(trace, state.used)?;
+    state.used += 1;
+    if value_table::tag_at(values, state.count, v) != 0
+        || !freshness::is_fresh(values, state.count, registers, state.registers, v)
+    {
+        return Err(Ending::NotFresh);
+    }
+    bind(list, values, registers, state, x, v, Ending::FreshLacks)
+}
+
 // A statement is a method. It ends the run by an `Err`.
 // The methods that only pass fields on name them once, where each statement would else write them all.
+// `bind` and `fresh` lend the values by `&mut`, though nothing writes them: through one `&mut self` the borrow checker has no rule yet for a field
+// lent by `&` beside one lent by `&mut`.
 impl Run<'_> {
-    // The next supplied value, if supply is left.
-    fn next_supplied(&self) -> Result<u16, Ending>
-        ensures { Supplied self.now.trace.now self.now.state.used result }
-    {
-        if trace::supply_count(self.trace) <= self.state.used {
-            return Err(Ending::NoSupply);
-        }
-        Ok(run_parts::supplied(self.trace, self.state.used))
-    }
-
     // The value in register p.
     pub fn value_in(&self, p: u8) -> u16
         ensures { result ≡ held_in self.now.registers.now self.now.state.registers p }
@@ -83,38 +127,21 @@ impl Run<'_> {
         value_table::part_at(self.values, self.state.count, v, j)
     }
 
-    // Value v visibly has the type of symbol x.
-    fn passes(&self, x: u8, v: u16) -> bool
-        ensures { Passes self.now.list.now x self.now.values.now self.now.state.count v result }
-    {
-        run_parts::passes(self.list, x, self.values, self.state.count, v)
-    }
-
-    // Value v neither is, nor occurs at any depth inside, a value that a register holds for a symbol.
-    fn is_fresh(&self, v: u16) -> bool
-        ensures { FreshBy self.now.values.now self.now.state.count self.now.registers.now self.now.state.registers v result }
-    {
-        freshness::is_fresh(
-            self.values,
-            self.state.count,
-            self.registers,
-            self.state.registers,
-            v,
-        )
-    }
-
     // Symbol x gets v, if v has its type; else the run ends.
     fn bind(&mut self, x: u8, v: u16, lacks: Ending) -> Result<(), Ending>
         ensures same { Same self.old self.new }
         ensures kept { (self.new.values.now ≡ self.old.values.now) × (self.new.log.now ≡ self.old.log.now) }
         ensures binds { Binds self.old.list.now self.old.values.now self.old.registers.now self.new.registers.now self.old.state self.new.state x v lacks result }
     {
-        if !self.passes(x, v) {
-            return Err(lacks);
-        }
-        let number = 2 * v as u32 + 1;
-        self.state.registers = run_parts::give(self.registers, self.state.registers, number);
-        Ok(())
+        bind(
+            self.list,
+            &mut *self.values,
+            self.registers,
+            &mut self.state,
+            x,
+            v,
+            lacks,
+        )
     }
 
     // Sends v on c.
@@ -133,24 +160,26 @@ impl Run<'_> {
         ensures kept { self.new.values.now ≡ self.old.values.now }
         ensures does { RunDoes 0 1 (acting (receives c x)) self.old self.new result }
     {
-        let v = self.next_supplied()?;
+        let v = next_supplied(self.trace, self.state.used)?;
         self.state.used += 1;
         self.state.logged = run_parts::say(self.log, self.state.logged, 1, c, v);
         self.bind(x, v, Ending::ReceivedLacks)
     }
 
-    // Takes the next supplied value as the fresh name x: supply left, taken, an atom and fresh, then its type.
+    // Takes the next supplied value as the fresh name x.
     pub fn fresh(&mut self, x: u8) -> Result<(), Ending>
         ensures same { Same self.old self.new }
         ensures kept { (self.new.values.now ≡ self.old.values.now) × (self.new.log.now ≡ self.old.log.now) }
         ensures does { RunDoes 0 0 (acting (freshens x)) self.old self.new result }
     {
-        let v = self.next_supplied()?;
-        self.state.used += 1;
-        if self.tag_at(v) != 0 || !self.is_fresh(v) {
-            return Err(Ending::NotFresh);
-        }
-        self.bind(x, v, Ending::FreshLacks)
+        fresh(
+            self.list,
+            self.trace,
+            &mut *self.values,
+            self.registers,
+            &mut self.state,
+            x,
+        )
     }
 
     // Compares v with w.
