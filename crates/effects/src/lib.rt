@@ -196,8 +196,9 @@ pub fn build(
     Ok(())
 }
 
-// The statements of a run, over its fields. Values that are only read are lent by `&mut` all the same: through one `&mut self` the borrow
-// checker has no rule yet for a field lent by `&` beside one lent by `&mut`.
+// The statements of a run: its fields are named here, so that `execution` names only what a statement acts on.
+// Values that are only read are lent by `&mut` all the same: through one `&mut self` the borrow checker has no rule yet for a field lent by `&`
+// beside one lent by `&mut`.
 impl Run<'_> {
     // The value in register p.
     pub fn value_in(&self, p: u8) -> u16
